@@ -1,0 +1,43 @@
+// What a card comes to at a time, and what its sort knows of two cards.
+ghost use Prim.Native.Nat.{ℕ, _≤_};
+ghost use mathlib.Core.Path.{_≡_};
+ghost use Rattle.family.specs.Order.{clamp, fact, FewChanges, NextChange};
+ghost use Rattle.family.specs.Amounts.{Amount, Sized, byAmount, TurnsAt};
+
+pub trait PricedCard: Copy {
+    // What a card comes to at a time.
+    ghost amount: { Amount Self };
+
+    // How often at most, of any two cards, the one that is no larger changes.
+    ghost swaps: { ℕ };
+
+    law sized: { Sized amount };
+
+    law few: { FewChanges swaps (byAmount amount) };
+
+    law bounded: { (1 ≤ swaps) × (swaps ≤ 2) };
+
+    // The amount at t.
+    fn amount_at(&self, t: u32) -> i64
+        ensures { λ r. ⌜ r ≡ amount (now (self .entry)) (clamp t) ⌝ };
+
+    // The bound on the swaps.
+    fn bound() -> u8
+        ensures { λ r. ⌜ r ≡ swaps ⌝ };
+}
+
+// A card that finds exchanges by a formula of its own.
+pub trait ExchangingCard: PricedCard {
+    // The least u with t < u ≤ end at which "this amount is no larger than the other's" differs from
+    // what it is at t, or none.
+    fn next_exchange(&self, other: &Self, t: u32, end: u32) -> Option<u32>
+        ensures { λ r. ⌜ NextChange (fact (byAmount (Self·PricedCard .amount)) (now (self .entry)) (now (other .entry))) t end r ⌝ };
+}
+
+// A card that knows where the difference to another may turn.
+pub trait TurningCard: PricedCard {
+    // A time up to which the difference of the two amounts never falls or never rises, and from which
+    // on it again never falls or never rises.
+    fn turning(&self, other: &Self) -> u32
+        ensures { λ r. ⌜ TurnsAt (Self·PricedCard .amount) (now (self .entry)) (now (other .entry)) r ⌝ };
+}

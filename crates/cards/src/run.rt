@@ -1,0 +1,38 @@
+// A run of amounts of one card.
+ghost use Prim.Native.Nat.{_+_, _≤_};
+ghost use mathlib.Core.Path.{_≡_};
+ghost use lib.ListN.{length};
+ghost use Rattle.std.specs.declared.option.Option.the-variants.{Some};
+ghost use Rattle.family.specs.Amounts.{Filled, RunAnswer};
+use crate::card::PricedCard;
+use family::LAST_TIME;
+use family::Refusal;
+
+// Puts the amount at first + k into cell k, or refuses and leaves every cell.
+pub(crate) fn run<C: PricedCard>(held: Option<C>, first: u32, cells: &mut [i64]) -> Result<(), Refusal>
+    ensures { λ r. ⌜ RunAnswer (C·PricedCard .amount) held first (now (cells .entry)) r (now (cells .exit)) ⌝ }
+{
+    if first > LAST_TIME {
+        return Err(Refusal::PastEnd);
+    }
+    if cells.len() > (LAST_TIME + 1 - first) as usize {
+        return Err(Refusal::PastEnd);
+    }
+    let Some(card) = held else {
+        return Err(Refusal::SlotEmpty);
+    };
+    fill(&card, first, cells);
+    Ok(())
+}
+
+// Writes every cell.
+fn fill<C: PricedCard>(card: &C, first: u32, cells: &mut [i64])
+    requires { ⌜ first + length (now cells) ≤ 1000001 ⌝ }
+    ensures { λ _. ⌜ Filled (C·PricedCard .amount) (Some (now (card .entry))) first (now (cells .exit)) ⌝ }
+{
+    let mut t = first;
+    for cell in cells.iter_mut() {
+        *cell = card.amount_at(t);
+        t += 1;
+    }
+}

@@ -1,0 +1,67 @@
+-- Amounts: what a card comes to at a time, the order they give, a run of them, and turning times.
+use mathlib.Core.Path.{_≡_}
+use mathlib.Core.List.{List}
+use mathlib.Core.Logic.{_⊎_}
+use Prim.Native.Nat.{ℕ, _+_, _≤_, _<_}
+use lib.IntN.{ℤ, pos, natAbs, _-ℤ_}
+use lib.Signed.{leZ, _≤ℤ_}
+use lib.ListN.{length, getD}
+use mathlib.Core.Bool.{true}
+use Rattle.std.specs.Options.{isSome, mapped}
+use Rattle.std.specs.declared.option.Option.{Option}
+use Rattle.std.specs.declared.option.Option.the-variants.{None, Some}
+use Rattle.std.specs.declared.result.Result.{Result}
+use Rattle.std.specs.declared.result.Result.the-variants.{Ok, Err}
+use Rattle.family.specs.declared.refusal.Refusal.{Refusal}
+use Rattle.family.specs.declared.refusal.Refusal.the-variants.{PastEnd, SlotEmpty}
+use Rattle.family.specs.Order.{clamp, Order}
+
+-- what each card comes to at each time
+abbrev pub Amount : Type 0 → Type 0
+Amount C = C → ℕ → ℤ
+
+-- no amount is larger than this, on either side of 0
+abbrev pub Sized : {C : Type 0} → Amount C → Type 0
+Sized {C} amount = (c : C) (t : ℕ) → natAbs (amount c (clamp t)) ≤ 2000400020000000000
+
+-- the order in which the smaller amount comes first
+abbrev pub byAmount : {C : Type 0} → Amount C → Order C
+byAmount amount c d t = leZ (amount c t) (amount d t)
+
+-- c is at or before d exactly when c's amount is no larger
+abbrev pub OrderedBy : {C : Type 0} → Order C → Amount C → Type 0
+OrderedBy {C} before amount = (c d : C) (t : ℕ) → before c d (clamp t) ≡ byAmount amount c d (clamp t)
+
+-- the amount of a slot's holding at a time, none for an empty slot
+abbrev pub amountOf : {C : Type 0} → Amount C → Option C → ℕ → Option ℤ
+amountOf amount h t = mapped (λ c. amount c (clamp t)) h
+
+-- A run of amounts puts the amount at first + k into cell k. It is refused, every cell left as it was,
+-- where it would pass the end, and after that where the slot is empty.
+abbrev pub InRange : ℕ → List ℤ → Type 0
+InRange first cells = (first ≤ 1000000) × (first + length cells ≤ 1000001)
+
+abbrev pub Filled : {C : Type 0} → Amount C → Option C → ℕ → List ℤ → Type 0
+Filled amount h first cells = (k : ℕ) → k < length cells → amountOf amount h (first + k) ≡ Some (getD cells k (pos 0))
+
+-- the number that refuses a run, where one does
+abbrev pub RunRefused : {C : Type 0} → Option C → ℕ → List ℤ → Refusal → Type 0
+RunRefused h first cells e = ((e ≡ PastEnd) × (InRange first cells → ⊥)) ⊎ ((e ≡ SlotEmpty) × InRange first cells × (h ≡ None))
+
+abbrev pub RunAnswer : {C : Type 0} → Amount C → Option C → ℕ → List ℤ → Result Unit Refusal → List ℤ → Type 0
+RunAnswer amount h first cells (Ok _) after = InRange first cells × (isSome h ≡ true) × (length after ≡ length cells) × Filled amount h first after
+RunAnswer amount h first cells (Err e) after = RunRefused h first cells e × (after ≡ cells)
+
+-- From a to b the number g never falls, or never rises.
+abbrev pub NeverFalls : (ℕ → ℤ) → ℕ → ℕ → Type 0
+NeverFalls g a b = (t u : ℕ) → a ≤ t → t ≤ u → u ≤ b → g t ≤ℤ g u
+
+abbrev pub NeverRises : (ℕ → ℤ) → ℕ → ℕ → Type 0
+NeverRises g a b = (t u : ℕ) → a ≤ t → t ≤ u → u ≤ b → g u ≤ℤ g t
+
+abbrev pub Steady : (ℕ → ℤ) → ℕ → ℕ → Type 0
+Steady g a b = NeverFalls g a b ⊎ NeverRises g a b
+
+-- m is a turning time of two cards: the difference of their amounts is steady up to m, and again from m on
+abbrev pub TurnsAt : {C : Type 0} → Amount C → C → C → ℕ → Type 0
+TurnsAt amount c d m = (m ≤ 1000000) × Steady (λ t. amount c t -ℤ amount d t) 0 m × Steady (λ t. amount c t -ℤ amount d t) m 1000000

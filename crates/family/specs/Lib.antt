@@ -1,0 +1,4 @@
+pub mod Order
+pub mod Slots
+pub mod Amounts
+pub mod Refusals

@@ -1,0 +1,44 @@
+// Why a call is turned down, and by which number. A refused call changes nothing.
+ghost use mathlib.Core.Path.{_≡_};
+ghost use Rattle.family.specs.Refusals.{numberOf};
+
+#[derive(Clone, Copy, PartialEq, Eq, Debug)]
+pub enum Refusal {
+    // A time or an end of a range is above 1,000,000, or a run of amounts would pass it.
+    PastEnd,
+    // The first time of a range is above its last.
+    RangeReversed,
+    // A card is outside its limits.
+    OutsideLimits,
+    // A place for a listing has fewer than 32,768 bytes.
+    ListingTooShort,
+    // The slot is filled.
+    SlotFilled,
+    // The slot is empty.
+    SlotEmpty,
+    // The time is below the clock.
+    BeforeClock,
+    // No card stands.
+    NoCardStands,
+    // The place for the answer is too short.
+    PlaceTooShort,
+}
+
+impl Refusal {
+    // The number by which the refusal is told.
+    pub fn number(self) -> u8
+        ensures { λ r. ⌜ r ≡ numberOf self ⌝ }
+    {
+        match self {
+            Refusal::PastEnd => 1,
+            Refusal::RangeReversed => 2,
+            Refusal::OutsideLimits => 3,
+            Refusal::ListingTooShort => 9,
+            Refusal::SlotFilled => 21,
+            Refusal::SlotEmpty => 22,
+            Refusal::BeforeClock => 23,
+            Refusal::NoCardStands => 24,
+            Refusal::PlaceTooShort => 25,
+        }
+    }
+}

@@ -1,0 +1,4 @@
+mod mirror;
+
+pub use mirror::Mirror;
+pub use mirror::MirrorFamily;
