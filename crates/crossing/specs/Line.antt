@@ -7,9 +7,13 @@ use lib.Signed.{leZ}
 use Rattle.std.specs.declared.option.Option.{Option}
 use Rattle.std.specs.declared.option.Option.the-variants.{None, Some}
 
--- whether gap + drift × w is not negative
+-- the number w times after it was gap
+abbrev pub line : ℤ → ℤ → ℕ → ℤ
+line gap drift w = gap +ℤ drift *ℤ pos w
+
+-- whether it is not negative then
 abbrev pub notNegative : ℤ → ℤ → ℕ → Bool
-notNegative gap drift w = leZ (pos 0) (gap +ℤ drift *ℤ pos w)
+notNegative gap drift w = leZ (pos 0) (line gap drift w)
 
 -- r is the least w above 0 at which the fact p differs from what it is at 0, or none
 abbrev pub FirstEver : (ℕ → Bool) → Option ℕ → Type 0

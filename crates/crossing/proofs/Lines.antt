@@ -1,0 +1,51 @@
+-- Laws of straight lines.
+use mathlib.Core.Path.{_≡_, sym, ap, _∙_}
+use mathlib.Core.Logic.{_⊎_, inl, inr}
+use Prim.Native.Nat.{ℕ, _+_, _-_, _*_, _≤_}
+use native.Mathlib.Omega.{arith}
+use native.Mathlib.Nat.{mul-add, add-mul}
+use lib.IntN.{ℤ, pos, negsuc, _+ℤ_, _-ℤ_, _*ℤ_}
+use lib.Signed.{leZ, _≤ℤ_, _<ℤ_}
+use borrow.Author.Differences.{ints, up, down}
+use Rattle.std.proofs.shelf.Signed.{by-ltZ}
+use Rattle.family.specs.Amounts.{Steady, NeverFalls, NeverRises}
+use Rattle.crossing.specs.Line.{line, notNegative}
+
+-- a product by a number that is not negative has the sign of the other factor
+times-rises : (k : ℤ) (n : ℕ) → pos 0 ≤ℤ k → pos 0 ≤ℤ (k *ℤ pos n)
+times-rises (pos a) n _ = omega (arith, ints)
+times-rises (negsuc a) n h = absurd (omega (arith, ints))
+
+times-falls : (k : ℤ) (n : ℕ) → k ≤ℤ pos 0 → (k *ℤ pos n) ≤ℤ pos 0
+times-falls (pos a) n h = let z : a ≡ 0 = omega (arith, ints) in rw z (omega (arith, ints))
+times-falls (negsuc a) n _ = omega (arith, ints)
+
+times-apart : (k : ℤ) (t w : ℕ) → k *ℤ pos (t + w) ≡ k *ℤ pos t +ℤ k *ℤ pos w
+times-apart k t w = omega (arith, ints, mul-add (up k) t w, mul-add (down k) t w)
+
+times-minus : (k l : ℤ) (t : ℕ) → (k -ℤ l) *ℤ pos t ≡ k *ℤ pos t -ℤ l *ℤ pos t
+times-minus k l t =
+    let e : up (k -ℤ l) + (down k + up l) ≡ down (k -ℤ l) + (up k + down l) = omega (arith, ints) in
+    omega (arith, ints, ap (λ n. n * t) e, add-mul (up (k -ℤ l)) (down k + up l) t, add-mul (down k) (up l) t, add-mul (down (k -ℤ l)) (up k + down l) t, add-mul (up k) (down l) t)
+
+-- the line after t is a line again
+pub line-on : (gap drift : ℤ) (t w : ℕ) → line gap drift (t + w) ≡ line (line gap drift t) drift w
+line-on gap drift t w = omega (arith, ints, times-apart drift t w)
+
+-- the difference of two lines is a line
+pub line-minus : (g k h l : ℤ) (t : ℕ) → line g k t -ℤ line h l t ≡ line (g -ℤ h) (k -ℤ l) t
+line-minus g k h l t = omega (arith, ints, times-minus k l t)
+
+-- a line never falls or never rises
+ahead : (g k : ℤ) (t u : ℕ) → t ≤ u → line g k u ≡ line g k t +ℤ k *ℤ pos (u - t)
+ahead g k t u upto = let e : u ≡ t + (u - t) = omega arith in ap (line g k) e ∙ line-on g k t (u - t)
+
+pub line-steady : (g k : ℤ) (a b : ℕ) → Steady (line g k) a b
+line-steady g k a b =
+    by-ltZ k (pos 0)
+    (λ under. inr (λ t u _ upto _. omega (arith, ints, ahead g k t u upto, times-falls k (u - t) (omega (arith, ints)))))
+    (λ above. inl (λ t u _ upto _. omega (arith, ints, ahead g k t u upto, times-rises k (u - t) above)))
+
+-- "x is at most y" is "y less x is not negative"
+pub le-by-gap : (x y : ℤ) → leZ x y ≡ leZ (pos 0) (y -ℤ x)
+le-by-gap x y = grind (arith, ints)

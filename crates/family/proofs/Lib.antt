@@ -1,0 +1,2 @@
+pub mod Change
+pub mod Steady

@@ -1,0 +1,8 @@
+use Rattle.hoppers.proofs.Lines.{fills-sized, fills-few}
+use Rattle.hoppers.proofs.exchange.HopperPriced.the-impl.Needs as need
+
+pub sized-law : need.sized-law
+sized-law = fills-sized
+
+pub few-law : need.few-law
+few-law = fills-few

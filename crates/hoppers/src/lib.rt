@@ -1,0 +1,14 @@
+// Hoppers: straight lines of fill over the minutes since opening.
+mod exchange;
+mod hopper;
+mod make;
+
+pub use exchange::HopperExchanging;
+pub use exchange::HopperPriced;
+pub use exchange::HopperTurning;
+pub use hopper::Hopper;
+use cards::ByAmount;
+use slots::Slots;
+
+// The family of hoppers, the emptier first. Two hoppers trade places at most once.
+pub type Hoppers = ByAmount<Slots<Hopper>>;
