@@ -1,0 +1,3 @@
+mod Until
+mod Beaten
+mod Told
