@@ -12,12 +12,8 @@ use Rattle.family.specs.Order.{Order}
 use Rattle.family.specs.Slots.{Cards}
 use Rattle.family.specs.Amounts.{Amount}
 use Rattle.fullest.specs.Lead.{Leader}
-use Rattle.fullest.specs.Stretches.{HoldsUntil, Following, Leading}
+use Rattle.fullest.specs.Stretches.{HoldsUntil, Lasting, Following, Leading}
 use Rattle.fullest.specs.declared.stretch.Stretch.{Stretch}
-
--- P holds from first to last and no longer
-abbrev pub Lasting : (ℕ → Type 0) → ℕ → ℕ → Type 0
-Lasting P first last = (first ≤ last) × (last ≤ 1000000) × ((v : ℕ) → first ≤ v → v ≤ last → P v) × (last < 1000000 → P (last + 1) → ⊥)
 
 pub lasting-to-change : (P : ℕ → Type 0) (first end : ℕ) → HoldsUntil P first (Some end) → Lasting P first (end - 1)
 lasting-to-change P first end (later, upto, holds, ends) =
@@ -27,15 +23,14 @@ lasting-to-change P first end (later, upto, holds, ends) =
 pub lasting-to-end : (P : ℕ → Type 0) (first : ℕ) → first ≤ 1000000 → HoldsUntil P first None → Lasting P first 1000000
 lasting-to-end P first upto holds = (upto, omega arith, holds, λ past _. omega arith)
 
-pub one-stretch-more : (lo hi : ℕ) (ss : List Stretch) (s : Stretch) → Following lo ss hi → s .first ≡ hi → s .first ≤ s .last
-    → Following lo (ss ++ s ∷ []) (s .last + 1)
-one-stretch-more lo hi [] s follows next forward = (next ∙ sym follows, forward, refl)
-one-stretch-more lo hi (r ∷ rs) s (is, on, rest) next forward = (is, on, one-stretch-more (r .last + 1) hi rs s rest next forward)
+pub one-stretch-more : (lo hi : ℕ) (ss : List Stretch) (s : Stretch) → Following lo ss hi → s .first ≡ hi → Following lo (ss ++ s ∷ []) (s .last + 1)
+one-stretch-more lo hi [] s follows next = (next ∙ sym follows, refl)
+one-stretch-more lo hi (r ∷ rs) s (is, rest) next = (is, one-stretch-more (r .last + 1) hi rs s rest next)
 
 -- where no card stands, nothing leads, and so nothing was told
-pub none-told : {C : Type 0} (before : Order C) (cards : Cards C) (amount : Amount C) (lo hi : ℕ) (ss : List Stretch)
-    → ((k : ℕ) → k < 256 → cards k ≡ None) → Following lo ss hi → All (Leading before cards amount) ss → ss ≡ []
-none-told before cards amount lo hi [] none _ _ = refl
-none-told before cards amount lo hi (s ∷ ss) none (_, forward, _) ((_, leads, _, _), _) =
+pub none-told : {C : Type 0} (before : Order C) (cards : Cards C) (amount : Amount C) (ss : List Stretch)
+    → ((k : ℕ) → k < 256 → cards k ≡ None) → All (Leading before cards amount) ss → ss ≡ []
+none-told before cards amount [] none _ = refl
+none-told before cards amount (s ∷ ss) none (((forward, _, leads, _), _), _) =
     let lead = leads (s .first) (omega arith) forward in
     absurd (false≢true (sym (ap isSome (none (s .slot) (lead .0))) ∙ lead .1))

@@ -23,17 +23,20 @@ earlierOf None b = b
 earlierOf (Some u) None = Some u
 earlierOf (Some u) (Some v) = Some (min u v)
 
+-- P holds from first to last, and no longer
+abbrev pub Lasting : (ℕ → Type 0) → ℕ → ℕ → Type 0
+Lasting P first last = (first ≤ last) × (last ≤ 1000000) × ((v : ℕ) → first ≤ v → v ≤ last → P v) × (last < 1000000 → P (last + 1) → ⊥)
+
 -- the stretches follow one another from the time lo on, and the last ends just before hi
 abbrev pub Following : ℕ → List Stretch → ℕ → Type 0
 Following lo [] hi = lo ≡ hi
-Following lo (s ∷ ss) hi = (s .first ≡ lo) × (s .first ≤ s .last) × Following (s .last + 1) ss hi
+Following lo (s ∷ ss) hi = (s .first ≡ lo) × Following (s .last + 1) ss hi
 
 module _ {C : Type 0} (before : Order C) (cards : Cards C) (amount : Amount C) where
   -- the slot leads from the stretch's first time to its last and no longer, and has the amount told at the first
   abbrev pub Leading : Stretch → Type 0
   Leading s =
-      (s .last ≤ 1000000) × ((v : ℕ) → s .first ≤ v → v ≤ s .last → Leader before cards v (Some (s .slot)))
-      × (s .last < 1000000 → Leader before cards (s .last + 1) (Some (s .slot)) → ⊥)
+      Lasting (λ v. Leader before cards v (Some (s .slot))) (s .first) (s .last)
       × (amountOf amount (cards (s .slot)) (s .first) ≡ Some (s .amount))
 
   -- the longest stretches, one after the other, from 0 to 1,000,000; none where no card stands

@@ -7,7 +7,7 @@ ghost use Rattle.std.specs.Options.{Cases};
 ghost use Rattle.std.specs.Vec.{made};
 ghost use Rattle.std.specs.declared.option.Option.the-variants.{None, Some};
 ghost use Rattle.fullest.specs.Lead.{Ahead, Leader};
-ghost use Rattle.fullest.specs.Stretches.{HoldsUntil, earlierOf, Leading, Chart};
+ghost use Rattle.fullest.specs.Stretches.{HoldsUntil, earlierOf, Lasting, Leading, Chart};
 use crate::lead::leader;
 use crate::stretch::Stretch;
 use family::Family;
@@ -35,14 +35,11 @@ pub fn stretches<F: PricedFamily>(heap: Global, family: &F) -> Result<Vec<Stretc
 // The stretch that begins at a time, or none where no card stands.
 fn stretch_from<F: PricedFamily>(family: &F, first: u32) -> Option<Stretch>
     requires { ⌜ first ≤ 1000000 ⌝ }
-    ensures { λ r. ⌜ Cases r ((k : ℕ) → k < 256 → F·Family .slots (now (family .entry)) k ≡ None) (λ s. (s .first ≡ first) × (first ≤ s .last) × Leading (F·Family .before (now (family .entry))) (F·Family .slots (now (family .entry))) (F·PricedFamily .amount (now (family .entry))) s) ⌝ }
+    ensures { λ r. ⌜ Cases r ((k : ℕ) → k < 256 → F·Family .slots (now (family .entry)) k ≡ None) (λ s. (s .first ≡ first) × Leading (F·Family .before (now (family .entry))) (F·Family .slots (now (family .entry))) (F·PricedFamily .amount (now (family .entry))) s) ⌝ }
 {
     let slot = leader(family, first)?;
     let amount = family.amount_at(slot, first)?;
-    let last = match lead_end(family, slot, first) {
-        Some(end) => end - 1,
-        None => LAST_TIME,
-    };
+    let last = lead_end(family, slot, first);
     Some(Stretch {
         first,
         last,
@@ -51,16 +48,27 @@ fn stretch_from<F: PricedFamily>(family: &F, first: u32) -> Option<Stretch>
     })
 }
 
+// The last time to which the leader at t leads on.
+fn lead_end<F: Family>(family: &F, leader: u8, t: u32) -> u32
+    requires { ⌜ t ≤ 1000000 ⌝ ∗ ⌜ Leader (F·Family .before (now family)) (F·Family .slots (now family)) t (Some leader) ⌝ }
+    ensures { λ r. ⌜ Lasting (λ v. Leader (F·Family .before (now (family .entry))) (F·Family .slots (now (family .entry))) v (Some leader)) t r ⌝ }
+{
+    match lead_change(family, leader, t) {
+        Some(change) => change - 1,
+        None => LAST_TIME,
+    }
+}
+
 // The first time after t at which the leader at t leads no more, or none.
-fn lead_end<F: Family>(family: &F, leader: u8, t: u32) -> Option<u32>
+fn lead_change<F: Family>(family: &F, leader: u8, t: u32) -> Option<u32>
     requires { ⌜ t ≤ 1000000 ⌝ ∗ ⌜ Leader (F·Family .before (now family)) (F·Family .slots (now family)) t (Some leader) ⌝ }
     ensures { λ r. ⌜ HoldsUntil (λ v. Leader (F·Family .before (now (family .entry))) (F·Family .slots (now (family .entry))) v (Some leader)) t r ⌝ }
 {
-    let mut end = None;
+    let mut change = None;
     for k in 0..=255u8 {
-        end = earlier(end, next_challenge(family, leader, k, t));
+        change = earlier(change, next_challenge(family, leader, k, t));
     }
-    end
+    change
 }
 
 // The first time after t at which the leader at t does not beat slot k any more, or none. The winner of

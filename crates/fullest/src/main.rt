@@ -1,10 +1,12 @@
 // Tells the fullest of some hoppers at each minute, and prints an account of it.
-use std::io;
+use std::error::AnyError;
 
+mod account;
 mod chart;
 mod lead;
+mod place;
 mod stretch;
 
-fn main(rt: LibcRuntime) -> io::Result<()> {
-    println!(rt, "x")
+fn main(rt: LibcRuntime) -> Result<(), AnyError> {
+    rt.report(account::tell(&rt))
 }

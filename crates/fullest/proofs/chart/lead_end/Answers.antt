@@ -1,21 +1,17 @@
-use Prim.Native.Nat.{_+_}
-use mathlib.Core.Path.{_≡_}
-use native.Mathlib.Omega.{arith}
-use Rattle.fullest.proofs.Beaten.{one-slot-more, leads-until}
+use Prim.Native.Nat.{ℕ}
+use Rattle.std.specs.declared.option.Option.the-variants.{Some}
+use Rattle.fullest.specs.Lead.{Leader}
+use Rattle.fullest.proofs.Told.{lasting-to-change, lasting-to-end}
 use Rattle.fullest.proofs.chart.lead_end.Needs as need
 
-pub loop-k-again : need.loop-k-again
-loop-k-again g c =
+pub returns-in-Some : need.returns-in-Some
+returns-in-Some g c =
     let f = c .args .family .now in
-    rw (c .earlier-end .ensures)
-    (one-slot-more (g .F·Family .before f) (g .F·Family .slots f) (c .args .leader) (c .loop-k .k) (c .args .t) (c .loop-k .end) (c .next-challenge .result)
-        (c .loop-k .inv) (c .next-challenge .ensures))
+    let leads : ℕ → Type 0 = λ v. Leader (g .F·Family .before f) (g .F·Family .slots f) v (Some (c .args .leader)) in
+    lasting-to-change leads (c .args .t) (c .in-Some .change) (c .in-Some .ensures tt)
 
-pub returns·2 : need.returns·2
-returns·2 g c =
+pub returns-in-None : need.returns-in-None
+returns-in-None g c =
     let f = c .args .family .now in
-    let last : c .loop-k .k + 1 ≡ 256 = omega arith in
-    leads-until (g .F·Family .before f) (g .F·Family .slots f) (c .args .leader) (c .args .t) (c .earlier-end .result) (omega arith) (c .pre .1 .1)
-    (rw (← last, c .earlier-end .ensures)
-    (one-slot-more (g .F·Family .before f) (g .F·Family .slots f) (c .args .leader) (c .loop-k .k) (c .args .t) (c .loop-k .end) (c .next-challenge .result)
-        (c .loop-k .inv) (c .next-challenge .ensures)))
+    let leads : ℕ → Type 0 = λ v. Leader (g .F·Family .before f) (g .F·Family .slots f) v (Some (c .args .leader)) in
+    lasting-to-end leads (c .args .t) (c .pre .0) (c .in-None .ensures tt)

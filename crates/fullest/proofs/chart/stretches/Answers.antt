@@ -13,7 +13,7 @@ pub returns-in-rest : need.returns-in-rest
 returns-in-rest g c =
     let f = c .args .family .now in
     let none = c .in-rest .ensures tt in
-    inl (none-told (g .F·Family .before f) (g .F·Family .slots f) (g .F·PricedFamily .amount f) 0 (c .loop-first .first) _ none (c .loop-first .inv .1) (c .loop-first .inv .2), none)
+    inl (none-told (g .F·Family .before f) (g .F·Family .slots f) (g .F·PricedFamily .amount f) _ none (c .loop-first .inv .2), none)
 
 pub loop-first-again : need.loop-first-again
 loop-first-again g c =
@@ -23,9 +23,9 @@ loop-first-again g c =
     let told = vec-items (c .loop-first .told) in
     let pushed : vec-items (c .push .last .self) ≡ told ++ s ∷ [] = c .in-Continue-push .ensures tt .items in
     rw pushed
-    (omega (arith, found .2 .0),
-    one-stretch-more 0 (c .loop-first .first) told s (c .loop-first .inv .1) (found .0) (rw (found .0) (found .1)),
-    all-push (Leading (g .F·Family .before f) (g .F·Family .slots f) (g .F·PricedFamily .amount f)) told s (c .loop-first .inv .2) (found .2))
+    (omega (arith, found .1 .0 .1),
+    one-stretch-more 0 (c .loop-first .first) told s (c .loop-first .inv .1) (found .0),
+    all-push (Leading (g .F·Family .before f) (g .F·Family .slots f) (g .F·PricedFamily .amount f)) told s (c .loop-first .inv .2) (found .1))
 
 pub returns : need.returns
 returns g c =
