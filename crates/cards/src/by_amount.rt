@@ -25,7 +25,9 @@ impl<C: Copy> ByAmount<Slots<C>> {
     pub fn new() -> Self
         ensures { λ r. ⌜ ((k : ℕ) → cardsOf (r .places) k ≡ None) ⌝ }
     {
-        ByAmount { places: Slots::new() }
+        ByAmount {
+            places: Slots::new(),
+        }
     }
 }
 
@@ -69,7 +71,9 @@ pub impl<C: ExchangingCard + Copy, P: Places<Card = C>> Family for ByAmount<P> a
     }
 }
 
-pub impl<C: ExchangingCard + Copy, P: Places<Card = C>> PricedFamily for ByAmount<P> as ByAmountPriced {
+pub impl<C: ExchangingCard + Copy, P: Places<Card = C>> PricedFamily for ByAmount<
+    P,
+> as ByAmountPriced {
     ghost amount = { λ _. C·PricedCard .amount };
 
     fn amount_at(&self, slot: u8, t: u32) -> Option<i64> {
@@ -82,7 +86,9 @@ pub impl<C: ExchangingCard + Copy, P: Places<Card = C>> PricedFamily for ByAmoun
     }
 }
 
-pub impl<C: TurningCard + Copy, P: Places<Card = C>> TurningFamily for ByAmount<P> as ByAmountTurning {
+pub impl<C: TurningCard + Copy, P: Places<Card = C>> TurningFamily for ByAmount<
+    P,
+> as ByAmountTurning {
     type Card = C;
 
     ghost slots = { λ f. P·Places .cards (f .places) };

@@ -2,7 +2,7 @@
 ghost use Prim.Native.Nat.{ℕ, _≤_};
 ghost use mathlib.Core.Path.{_≡_};
 ghost use Rattle.family.specs.Order.{clamp, fact, FewChanges, NextChange};
-ghost use Rattle.family.specs.Amounts.{Amount, Sized, byAmount, TurnsAt};
+ghost use Rattle.family.specs.Amounts.{Amount, Sized, byAmount, TurnsAt, Turning};
 
 pub trait PricedCard: Copy {
     // What a card comes to at a time.
@@ -16,6 +16,8 @@ pub trait PricedCard: Copy {
     law few: { FewChanges swaps (byAmount amount) };
 
     law bounded: { (1 ≤ swaps) × (swaps ≤ 2) };
+
+    law turns: { Turning amount };
 
     // The amount at t.
     fn amount_at(&self, t: u32) -> i64

@@ -9,7 +9,11 @@ use family::LAST_TIME;
 use family::Refusal;
 
 // Puts the amount at first + k into cell k, or refuses and leaves every cell.
-pub(crate) fn run<C: PricedCard>(held: Option<C>, first: u32, cells: &mut [i64]) -> Result<(), Refusal>
+pub(crate) fn run<C: PricedCard>(
+    held: Option<C>,
+    first: u32,
+    cells: &mut [i64],
+) -> Result<(), Refusal>
     ensures { λ r. ⌜ RunAnswer (C·PricedCard .amount) held first (now (cells .entry)) r (now (cells .exit)) ⌝ }
 {
     if first > LAST_TIME {

@@ -34,10 +34,11 @@ rising-holds g d w h = grind (arith, ints)
 -- not negative and falling: it is negative for the first time one past the quotient
 falls-by : (g d : ℕ) → FirstEver (notNegative (pos g) (negsuc d)) (Some (g / suc d + 1))
 falls-by g d =
-    let start = falling-holds g d 0 (omega arith) in
-    (omega arith,
-    falling-fails g d (g / suc d + 1) (beyond g d) ∙ sym (ap not start),
-    λ v h. falling-holds g d v (within g d v h) ∙ sym start)
+    let start = falling-holds g d 0 (omega arith) in (
+      omega arith,
+      falling-fails g d (g / suc d + 1) (beyond g d) ∙ sym (ap not start),
+      λ v h. falling-holds g d v (within g d v h) ∙ sym start,
+    )
 
 pub falls-below : (gap drift : ℤ) (g d : ℕ) → pos 0 ≤ℤ gap → drift <ℤ pos 0 → g ≡ natAbs gap → d ≡ natAbs drift
     → FirstEver (notNegative gap drift) (Some (g / d + 1))
@@ -48,10 +49,11 @@ falls-below (negsuc a) drift g d h _ _ _ = absurd (omega (arith, ints))
 -- negative and rising: it is not negative as soon as it is 0, so of the gap only one less than its size counts
 rises-by : (g d : ℕ) → FirstEver (notNegative (negsuc g) (pos (suc d))) (Some (g / suc d + 1))
 rises-by g d =
-    let start = rising-fails g d 0 (omega arith) in
-    (omega arith,
-    rising-holds g d (g / suc d + 1) (beyond g d) ∙ sym (ap not start),
-    λ v h. rising-fails g d v (within g d v h) ∙ sym start)
+    let start = rising-fails g d 0 (omega arith) in (
+      omega arith,
+      rising-holds g d (g / suc d + 1) (beyond g d) ∙ sym (ap not start),
+      λ v h. rising-fails g d v (within g d v h) ∙ sym start,
+    )
 
 pub rises-to-zero : (gap drift : ℤ) (g d : ℕ) → gap <ℤ pos 0 → pos 0 <ℤ drift → g + 1 ≡ natAbs gap → d ≡ natAbs drift
     → FirstEver (notNegative gap drift) (Some (g / d + 1))

@@ -1,28 +1,71 @@
--- Amounts whose difference never falls or never rises trade places at most once.
+-- Amounts whose difference never falls or never rises trade places at most once; with one turning time,
+-- at most twice.
 use mathlib.Core.Path.{_≡_, sym}
-use mathlib.Core.Bool.{Bool, true, false}
+use mathlib.Core.Bool.{Bool, true, false, not}
+use mathlib.Core.List.{List, [], _∷_}
 use mathlib.Core.Logic.{⊎-elim}
-use Prim.Native.Nat.{ℕ, _≤_}
+use Prim.Native.Nat.{ℕ, _-_, _<_, _≤_}
 use native.Mathlib.Omega.{arith}
 use lib.IntN.{ℤ, _-ℤ_}
-use lib.Signed.{leZ, _≤ℤ_}
+use lib.ListN.{length}
+use lib.Signed.{_≤ℤ_}
 use borrow.Author.Differences.{ints}
-use Rattle.family.specs.Order.{clamp, fact, FewChanges}
-use Rattle.family.specs.Amounts.{Amount, byAmount, NeverFalls, NeverRises, Steady}
-use Rattle.family.proofs.Change.{Lasts, changes-once}
+use Rattle.std.proofs.shelf.Tests.{cases-lt}
+use Rattle.family.specs.Order.{clamp, fact, Changes, FewChanges}
+use Rattle.family.specs.Amounts.{Amount, byAmount, Steady, Turning}
+use Rattle.family.proofs.Change.{LastsIn, two-changes-clash}
+
+-- a time is read as one from a to b
+abbrev Within : ℕ → ℕ → ℕ → Type 0
+Within a b t = (a ≤ clamp t) × (clamp t ≤ b)
 
 module _ {C : Type 0} (amount : Amount C) (c d : C) where
-  falls-no-more : NeverFalls (λ t. amount c t -ℤ amount d t) 0 1000000 → Lasts false (fact (byAmount amount) c d)
-  falls-no-more never t u upto h =
-      let k : (amount c (clamp t) -ℤ amount d (clamp t)) ≤ℤ (amount c (clamp u) -ℤ amount d (clamp u)) = never (clamp t) (clamp u) (omega arith) (omega arith) (omega arith) in
-      sym (omega (arith, ints))
+  -- where the difference is steady, the fact changes one way only
+  lasts : (a b : ℕ) → Steady (λ t. amount c t -ℤ amount d t) a b → (x : Bool) × LastsIn (Within a b) x (fact (byAmount amount) c d)
+  lasts a b steady =
+      ⊎-elim
+      (λ never. (
+        false,
+        λ t u in-t in-u upto h.
+            let k : (amount c (clamp t) -ℤ amount d (clamp t)) ≤ℤ (amount c (clamp u) -ℤ amount d (clamp u)) =
+            never (clamp t) (clamp u) (in-t .0) (omega arith) (in-u .1) in
+            sym (omega (arith, ints)),
+      ))
+      (λ never. (
+        true,
+        λ t u in-t in-u upto h.
+            let k : (amount c (clamp u) -ℤ amount d (clamp u)) ≤ℤ (amount c (clamp t) -ℤ amount d (clamp t)) =
+            never (clamp t) (clamp u) (in-t .0) (omega arith) (in-u .1) in
+            sym (omega (arith, ints)),
+      ))
+      steady
 
-  rises-no-more : NeverRises (λ t. amount c t -ℤ amount d t) 0 1000000 → Lasts true (fact (byAmount amount) c d)
-  rises-no-more never t u upto h =
-      let k : (amount c (clamp u) -ℤ amount d (clamp u)) ≤ℤ (amount c (clamp t) -ℤ amount d (clamp t)) = never (clamp t) (clamp u) (omega arith) (omega arith) (omega arith) in
-      sym (omega (arith, ints))
+  -- so two changes of the fact do not lie in one part
+  apart : {X : Type 0} (a b : ℕ) → Steady (λ t. amount c t -ℤ amount d t) a b → (t u : ℕ) → 0 < t → t < u
+      → Within a b (t - 1) → Within a b t → Within a b (u - 1) → Within a b u
+      → fact (byAmount amount) c d t ≡ not (fact (byAmount amount) c d (t - 1))
+      → fact (byAmount amount) c d u ≡ not (fact (byAmount amount) c d (u - 1)) → X
+  apart a b steady t u = let l = lasts a b steady in two-changes-clash (Within a b) (l .0) _ (l .1) t u
 
 pub few-if-steady : {C : Type 0} (amount : Amount C) → ((c d : C) → Steady (λ t. amount c t -ℤ amount d t) 0 1000000) → FewChanges 1 (byAmount amount)
-few-if-steady amount steady c d ts changes =
-    ⊎-elim (λ never. changes-once false _ (falls-no-more amount c d never) ts changes)
-    (λ never. changes-once true _ (rises-no-more amount c d never) ts changes) (steady c d)
+few-if-steady amount steady c d [] _ = omega arith
+few-if-steady amount steady c d (t ∷ []) _ = omega arith
+few-if-steady amount steady c d (t ∷ u ∷ us) (some, at-t, (above, at-u, _)) =
+    apart amount c d 0 1000000 (steady c d) t u some above
+    (omega arith, omega arith) (omega arith, omega arith) (omega arith, omega arith) (omega arith, omega arith) at-t at-u
+
+pub few-if-turning : {C : Type 0} (amount : Amount C) → Turning amount → FewChanges 2 (byAmount amount)
+few-if-turning amount turning c d [] _ = omega arith
+few-if-turning amount turning c d (t ∷ []) _ = omega arith
+few-if-turning amount turning c d (t ∷ u ∷ []) _ = omega arith
+few-if-turning amount turning c d (t ∷ u ∷ v ∷ vs) (some, at-t, (above, at-u, (on, at-v, _))) =
+    let m = turning c d .0 in
+    let early : m ≤ 1000000 = turning c d .1 .0 in
+    ⊎-elim
+    (λ late.
+    apart amount c d m 1000000 (turning c d .1 .2) u v (omega arith) on
+    (omega arith, omega arith) (omega arith, omega arith) (omega arith, omega arith) (omega arith, omega arith) at-u at-v)
+    (λ soon.
+    apart amount c d 0 m (turning c d .1 .1) t u some above
+    (omega arith, omega arith) (omega arith, omega arith) (omega arith, omega arith) (omega arith, omega arith) at-t at-u)
+    (cases-lt m u)

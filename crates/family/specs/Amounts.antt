@@ -65,3 +65,7 @@ Steady g a b = NeverFalls g a b ⊎ NeverRises g a b
 -- m is a turning time of two cards: the difference of their amounts is steady up to m, and again from m on
 abbrev pub TurnsAt : {C : Type 0} → Amount C → C → C → ℕ → Type 0
 TurnsAt amount c d m = (m ≤ 1000000) × Steady (λ t. amount c t -ℤ amount d t) 0 m × Steady (λ t. amount c t -ℤ amount d t) m 1000000
+
+-- any two cards have a turning time
+abbrev pub Turning : {C : Type 0} → Amount C → Type 0
+Turning {C} amount = (c d : C) → (m : ℕ) × TurnsAt amount c d m

@@ -25,7 +25,7 @@ ghost use mathlib.Core.Path.{_≡_};
 ghost use Rattle.std.specs.Vec.{refused};
 ghost use Rattle.family.specs.Order.{Order, Preorder, FewChanges, NextChange};
 ghost use Rattle.family.specs.Slots.{Cards, slotBefore, PutAnswer, LiftAnswer};
-ghost use Rattle.family.specs.Amounts.{Amount, Sized, OrderedBy, amountOf, RunAnswer, TurnsAt};
+ghost use Rattle.family.specs.Amounts.{Amount, Sized, OrderedBy, amountOf, RunAnswer, TurnsAt, Turning};
 
 mod refusal;
 
@@ -121,6 +121,9 @@ pub trait TurningFamily {
     ghost amount: { Self → Amount Self·Card };
 
     law sized: { (f : Self) → Sized (amount f) };
+
+    // A turning time exists; which one is told is left open.
+    law turns: { (f : Self) → Turning (amount f) };
 
     // As put of a family.
     fn put(&mut self, slot: u8, card: Self::Card) -> Result<(), Refusal>

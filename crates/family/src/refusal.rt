@@ -1,6 +1,6 @@
 // Why a call is turned down, and by which number. A refused call changes nothing.
 ghost use mathlib.Core.Path.{_≡_};
-ghost use Rattle.family.specs.Refusals.{numberOf};
+ghost use Rattle.family.specs.Refusals.{numberOf, reasonOf};
 
 #[derive(Clone, Copy, PartialEq, Eq, Debug)]
 pub enum Refusal {
@@ -39,6 +39,22 @@ impl Refusal {
             Refusal::BeforeClock => 23,
             Refusal::NoCardStands => 24,
             Refusal::PlaceTooShort => 25,
+        }
+    }
+    // The reason in words.
+    pub fn reason(self) -> &'static str
+        ensures { λ r. ⌜ now r ≡ reasonOf self ⌝ }
+    {
+        match self {
+            Refusal::PastEnd => "a time is above 1000000",
+            Refusal::RangeReversed => "a range ends before it starts",
+            Refusal::OutsideLimits => "the card is outside its limits",
+            Refusal::ListingTooShort => "the place for a listing is too short",
+            Refusal::SlotFilled => "the slot is filled",
+            Refusal::SlotEmpty => "the slot is empty",
+            Refusal::BeforeClock => "the time is below the clock",
+            Refusal::NoCardStands => "no card stands",
+            Refusal::PlaceTooShort => "the place is too short",
         }
     }
 }

@@ -71,7 +71,7 @@ module _ {C : Type 0} (before : Order C) (ordered : Preorder before) where
       → HoldsUntil (λ v. Ahead before cards v leader k) t r
   higher-until cards leader k t r above leads first =
       let itself : (v : ℕ) → k ≡ leader → slotBefore before cards leader k v ≡ true =
-          λ v e. rw e (level-with-itself (cards leader) v) in
+      λ v e. rw e (level-with-itself (cards leader) v) in
       until-change (slotBefore before cards leader k) _ true t r
       (before-empty (cards leader) (cards k) t (λ s. ⊎-elim (itself t) (λ apart. leads s apart .0) (cases-eq k leader)))
       (λ v e _ apart. (e, inl (omega arith)))

@@ -11,7 +11,7 @@ use borrow.Author.Differences.{ints}
 use Rattle.std.proofs.shelf.Bits.{mul-le}
 use Rattle.std.specs.declared.option.Option.{Option}
 use Rattle.family.specs.Order.{clamp, fact, FewChanges, FirstChange, NextChange}
-use Rattle.family.specs.Amounts.{Sized, byAmount, Steady, NeverFalls, NeverRises, TurnsAt}
+use Rattle.family.specs.Amounts.{Sized, byAmount, Steady, NeverFalls, NeverRises, TurnsAt, Turning}
 use Rattle.family.proofs.Change.{first-change-alike}
 use Rattle.family.proofs.Steady.{few-if-steady}
 use Rattle.crossing.specs.Line.{line, notNegative}
@@ -32,7 +32,7 @@ fills-sized h t = omega (arith, fill-size h (clamp t) (omega arith))
 pub fills-steady : (c d : Hopper) (a b : ℕ) → Steady (λ t. fillAt c t -ℤ fillAt d t) a b
 fills-steady c d a b =
     let same : (t : ℕ) → line (pos (c .fill) -ℤ pos (d .fill)) (c .rate -ℤ d .rate) t ≡ fillAt c t -ℤ fillAt d t =
-        λ t. sym (line-minus (pos (c .fill)) (c .rate) (pos (d .fill)) (d .rate) t) in
+    λ t. sym (line-minus (pos (c .fill)) (c .rate) (pos (d .fill)) (d .rate) t) in
     ⊎-elim
     (λ never. inl (λ t u p q r. omega (arith, ints, never t u p q r, same t, same u)))
     (λ never. inr (λ t u p q r. omega (arith, ints, never t u p q r, same t, same u)))
@@ -41,8 +41,12 @@ fills-steady c d a b =
 pub fills-few : FewChanges 1 (byAmount fillAt)
 fills-few = few-if-steady fillAt (λ c d. fills-steady c d 0 1000000)
 
+-- two lines never turn, so any time is a turning time
 pub turn-at-zero : (c d : Hopper) → TurnsAt fillAt c d 0
 turn-at-zero c d = (omega arith, fills-steady c d 0 0, fills-steady c d 0 1000000)
+
+pub fills-turn : Turning fillAt
+fills-turn c d = (0, turn-at-zero c d)
 
 -- from a time on, "c is at or before d" is "the gap at that time, moved on by the difference of the
 -- rates, is not negative"

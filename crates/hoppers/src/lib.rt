@@ -3,11 +3,11 @@ mod exchange;
 mod hopper;
 mod make;
 
+use cards::ByAmount;
 pub use exchange::HopperExchanging;
 pub use exchange::HopperPriced;
 pub use exchange::HopperTurning;
 pub use hopper::Hopper;
-use cards::ByAmount;
 use slots::Slots;
 
 // The family of hoppers, the emptier first. Two hoppers trade places at most once.

@@ -5,6 +5,7 @@ use crate::hopper::Hopper;
 use family::Refusal;
 
 const MOST_COINS: u32 = 1_000_000_000;
+
 const FASTEST: u32 = 1_000_000;
 
 impl Hopper {
@@ -25,7 +26,11 @@ impl Hopper {
         if rate.unsigned_abs() > FASTEST {
             return Err(Refusal::OutsideLimits);
         }
-        Ok(Hopper { fill, rate, capacity })
+        Ok(Hopper {
+            fill,
+            rate,
+            capacity,
+        })
     }
 
     // The coins in it at opening.

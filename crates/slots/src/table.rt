@@ -14,6 +14,8 @@ impl<C: Copy> Slots<C> {
     pub fn new() -> Self
         ensures { λ r. ⌜ ((k : ℕ) → cardsOf r k ≡ None) ⌝ }
     {
-        Slots { places: [None; 256] }
+        Slots {
+            places: [None; 256],
+        }
     }
 }

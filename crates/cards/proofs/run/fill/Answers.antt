@@ -11,7 +11,8 @@ use Rattle.cards.proofs.run.fill.Needs as need
 pub loop-cell-again : need.loop-cell-again
 loop-cell-again g c =
     let amount = g .C·PricedCard .amount (c .args .card .now) in
-    let fits : SFits w64 (c .amount-at .result) = search needs in
-    (omega arith,
-    one-cell-more (λ k. amount (clamp (c .args .first + k))) (c .loop-cell .cells) (c .loop-cell .cell-index) (c .amount-at .result)
-        (omega arith) fits (c .amount-at .ensures ∙ ap (λ t. amount (clamp t)) (c .loop-cell .inv .0)) (c .loop-cell .inv .1))
+    let fits : SFits w64 (c .amount-at .result) = search needs in (
+      omega arith,
+      one-cell-more (λ k. amount (clamp (c .args .first + k))) (c .loop-cell .cells) (c .loop-cell .cell-index) (c .amount-at .result)
+          (omega arith) fits (c .amount-at .ensures ∙ ap (λ t. amount (clamp t)) (c .loop-cell .inv .0)) (c .loop-cell .inv .1),
+    )

@@ -9,7 +9,7 @@ loop-k-again g c =
     let f = c .args .family .now in
     rw (c .earlier-change .ensures)
     (one-slot-more (g .F·Family .before f) (g .F·Family .slots f) (c .args .leader) (c .loop-k .k) (c .args .t) (c .loop-k .change) (c .next-challenge .result)
-        (c .loop-k .inv) (c .next-challenge .ensures))
+    (c .loop-k .inv) (c .next-challenge .ensures))
 
 pub returns·2 : need.returns·2
 returns·2 g c =
@@ -18,4 +18,4 @@ returns·2 g c =
     leads-until (g .F·Family .before f) (g .F·Family .slots f) (c .args .leader) (c .args .t) (c .earlier-change .result) (omega arith) (c .pre .1 .1)
     (rw (← last, c .earlier-change .ensures)
     (one-slot-more (g .F·Family .before f) (g .F·Family .slots f) (c .args .leader) (c .loop-k .k) (c .args .t) (c .loop-k .change) (c .next-challenge .result)
-        (c .loop-k .inv) (c .next-challenge .ensures)))
+    (c .loop-k .inv) (c .next-challenge .ensures)))

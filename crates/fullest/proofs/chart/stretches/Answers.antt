@@ -22,10 +22,11 @@ loop-first-again g c =
     let found = c .in-Some .ensures tt in
     let told = vec-items (c .loop-first .told) in
     let pushed : vec-items (c .push .last .self) ≡ told ++ s ∷ [] = c .in-Continue-push .ensures tt .items in
-    rw pushed
-    (omega (arith, found .1 .0 .1),
-    one-stretch-more 0 (c .loop-first .first) told s (c .loop-first .inv .1) (found .0),
-    all-push (Leading (g .F·Family .before f) (g .F·Family .slots f) (g .F·PricedFamily .amount f)) told s (c .loop-first .inv .2) (found .1))
+    rw pushed (
+      omega (arith, found .1 .0 .1),
+      one-stretch-more 0 (c .loop-first .first) told s (c .loop-first .inv .1) (found .0),
+      all-push (Leading (g .F·Family .before f) (g .F·Family .slots f) (g .F·PricedFamily .amount f)) told s (c .loop-first .inv .2) (found .1),
+    )
 
 pub returns : need.returns
 returns g c =

@@ -11,5 +11,5 @@ pub returns : need.returns
 returns g c =
     let fits : SFits w32 (c .args .reading .rate) = search needs in
     let made : Making (c .args .reading .fill) (c .args .reading .rate) (c .args .reading .capacity) (Ok (c .in-Continue-hopper .hopper)) =
-        simp toZ-ofZ at (c .in-Continue-hopper .ensures tt) in
+    simp toZ-ofZ at (c .in-Continue-hopper .ensures tt) in
     record { answer = inl (c .in-Continue-hopper .hopper, made, c .put .ensures .answer); same = c .put .ensures .same }

@@ -18,11 +18,11 @@ returns c =
     let from = c .min-from .result in
     let known : clamp from ≡ from = omega arith in
     let gap-is =
-        difference-kept (c .amount-at .result) (c .amount-at-2 .result) (fillAt two from) (fillAt one from)
-            (c .amount-at .ensures ∙ ap (fillAt two) known) (c .amount-at-2 .ensures ∙ ap (fillAt one) known)
-            (fill-size two from (omega arith)) (fill-size one from (omega arith)) in
+    difference-kept (c .amount-at .result) (c .amount-at-2 .result) (fillAt two from) (fillAt one from)
+    (c .amount-at .ensures ∙ ap (fillAt two) known) (c .amount-at-2 .ensures ∙ ap (fillAt one) known)
+    (fill-size two from (omega arith)) (fill-size one from (omega arith)) in
     let drift-is =
-        difference-kept (c .from .result) (c .from-2 .result) (two .rate) (one .rate) (omega (arith, ints)) (omega (arith, ints))
-            (omega (arith, two .within .3)) (omega (arith, one .within .3)) in
+    difference-kept (c .from .result) (c .from-2 .result) (two .rate) (one .rate) (omega (arith, ints)) (omega (arith, ints))
+    (omega (arith, two .within .3)) (omega (arith, one .within .3)) in
     exchange-found one two _ _ (c .args .t) (c .args .end) from (c .min .result) (c .next-crossing .result)
-        (omega arith) (omega arith) gap-is drift-is (c .next-crossing .ensures)
+    (omega arith) (omega arith) gap-is drift-is (c .next-crossing .ensures)

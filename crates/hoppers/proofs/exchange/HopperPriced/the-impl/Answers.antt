@@ -1,4 +1,4 @@
-use Rattle.hoppers.proofs.Lines.{fills-sized, fills-few}
+use Rattle.hoppers.proofs.Lines.{fills-sized, fills-few, fills-turn}
 use Rattle.hoppers.proofs.exchange.HopperPriced.the-impl.Needs as need
 
 pub sized-law : need.sized-law
@@ -6,3 +6,6 @@ sized-law = fills-sized
 
 pub few-law : need.few-law
 few-law = fills-few
+
+pub turns-law : need.turns-law
+turns-law = fills-turn
