@@ -16,58 +16,30 @@ use layers::MirrorPriced;
 use slots::SlotsPlaces;
 use std::error::AnyError;
 
-// Slots 2 and 7 trade places at minute 50, when both hold 1,000 coins; slots 2 and 4 are level at minute
-// 250; slot 9 is as full as slot 7 throughout; slot 200 drains. The last two are refused.
-const READINGS: [Reading; 7] = [
-    Reading {
-        slot: 2,
-        fill: 500,
-        rate: 10,
-        capacity: 3_000,
-    },
-    Reading {
-        slot: 7,
-        fill: 800,
-        rate: 4,
-        capacity: 5_000,
-    },
-    Reading {
-        slot: 4,
-        fill: 0,
-        rate: 12,
-        capacity: 2_000,
-    },
-    Reading {
-        slot: 9,
-        fill: 800,
-        rate: 4,
-        capacity: 900,
-    },
-    Reading {
-        slot: 200,
-        fill: 750,
-        rate: -3,
-        capacity: 1_000,
-    },
-    Reading {
-        slot: 30,
-        fill: 3_001,
-        rate: 10,
-        capacity: 3_000,
-    },
-    Reading {
-        slot: 2,
-        fill: 1,
-        rate: 1,
-        capacity: 1,
-    },
+// Slot, opening fill, rate and capacity. Slots 2 and 7 trade places at minute 50, when both hold 1,000
+// coins; slots 2 and 4 are level at minute 250; slot 9 holds as much as slot 7 throughout; slot 200 drains.
+// The last two are refused.
+const READINGS: [(u8, u32, i32, u32); 7] = [
+    (2, 500, 10, 3_000),
+    (7, 800, 4, 5_000),
+    (4, 0, 12, 2_000),
+    (9, 800, 4, 900),
+    (200, 750, -3, 1_000),
+    (30, 3_001, 10, 3_000),
+    (2, 20, 1, 100),
 ];
 
 // Sets up the hoppers and tells the fullest at each minute.
 pub fn tell(rt: &LibcRuntime) -> Result<(), AnyError> {
     let mut family = Mirror::over(Hoppers::new());
     println!(rt, "Setting up hoppers")?;
-    for reading in READINGS {
+    for (slot, fill, rate, capacity) in READINGS {
+        let reading = Reading {
+            slot,
+            fill,
+            rate,
+            capacity,
+        };
         set_up(rt, &mut family, reading)?;
     }
     println!(rt, "Hoppers standing")?;

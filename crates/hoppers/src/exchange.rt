@@ -1,4 +1,9 @@
 // A hopper's fill at a time, and when two hoppers trade places.
+ghost use Prim.Native.Nat.{_≤_};
+ghost use lib.IntN.{natAbs};
+ghost use mathlib.Core.Path.{_≡_};
+ghost use Rattle.family.specs.Order.{fact, FirstChange};
+ghost use Rattle.family.specs.Amounts.{byAmount, TurnsAt};
 ghost use Rattle.hoppers.specs.Fill.{fillAt};
 use crate::hopper::Hopper;
 use cards::ExchangingCard;
@@ -13,7 +18,7 @@ pub impl PricedCard for Hopper as HopperPriced {
     ghost swaps = { 1 };
 
     fn amount_at(&self, t: u32) -> i64 {
-        i64::from(self.fill) + i64::from(self.rate) * i64::from(t.min(LAST_TIME))
+        self.fill_after(t.min(LAST_TIME))
     }
 
     fn bound() -> u8 {
@@ -22,19 +27,45 @@ pub impl PricedCard for Hopper as HopperPriced {
 }
 
 pub impl ExchangingCard for Hopper as HopperExchanging {
-    // The other's fill less this one's moves by the difference of the rates each minute, and this hopper
-    // is at or before the other while that is not negative.
     fn next_exchange(&self, other: &Hopper, t: u32, end: u32) -> Option<u32> {
-        let from = t.min(LAST_TIME);
-        let gap = other.amount_at(from) - self.amount_at(from);
-        let drift = i64::from(other.rate) - i64::from(self.rate);
-        next_crossing(gap, drift, from, end.min(LAST_TIME))
+        line_exchange(self, other, t.min(LAST_TIME), end.min(LAST_TIME))
     }
 }
 
 pub impl TurningCard for Hopper as HopperTurning {
     // The difference of two straight lines never turns, so any time will do.
-    fn turning(&self, _other: &Hopper) -> u32 {
-        0
+    fn turning(&self, other: &Hopper) -> u32 {
+        never_turning(self, other, 0)
     }
+}
+
+impl Hopper {
+    // The fill after some minutes, at most 1,000,000.
+    fn fill_after(&self, minutes: u32) -> i64
+        requires { ⌜ minutes ≤ 1000000 ⌝ }
+        ensures value { λ r. ⌜ r ≡ fillAt (now (self .entry)) minutes ⌝ }
+        ensures bound { λ r. ⌜ natAbs r ≤ 1001000000000 ⌝ }
+    {
+        i64::from(self.fill) + i64::from(self.rate) * i64::from(minutes)
+    }
+}
+
+// The next exchange of two hoppers. The second's fill less the first's moves by the difference of the rates
+// each minute, and the first is at or before the second while that is not negative.
+fn line_exchange(c: &Hopper, d: &Hopper, from: u32, end: u32) -> Option<u32>
+    requires starts { ⌜ from ≤ 1000000 ⌝ }
+    requires ends { ⌜ end ≤ 1000000 ⌝ }
+    ensures { λ r. ⌜ FirstChange (fact (byAmount fillAt) (now (c .entry)) (now (d .entry))) from end r ⌝ }
+{
+    let gap = d.fill_after(from) - c.fill_after(from);
+    let drift = i64::from(d.rate) - i64::from(c.rate);
+    next_crossing(gap, drift, from, end)
+}
+
+// Any time, as a turning time of two hoppers.
+fn never_turning(c: &Hopper, d: &Hopper, any: u32) -> u32
+    requires { ⌜ any ≤ 1000000 ⌝ }
+    ensures { λ r. ⌜ TurnsAt fillAt (now (c .entry)) (now (d .entry)) r ⌝ }
+{
+    any
 }

@@ -10,264 +10,108 @@ use hoppers::Hoppers;
 use slots::SlotsPlaces;
 use std::test::*;
 
-// From t to end, when "slot 0 is at or before slot 1" changes, and when "slot 1 is at or before slot 0" does.
-#[derive(Drop)]
-struct Row {
-    why: &'static str,
-    c: Line,
-    d: Line,
-    t: u32,
-    end: u32,
-    forth: Option<u32>,
-    back: Option<u32>,
-}
-
 const ALL: u32 = 1_000_000;
+
+// Two hoppers, a start and an end; then when "slot 0 is at or before slot 1" changes, and when "slot 1 is
+// at or before slot 0" does.
+type Row = (Line, Line, u32, u32, Option<u32>, Option<u32>);
+
+fn agree(rows: &[Row]) -> Result<(), Fail> {
+    for (c, d, t, end, forth, back) in rows.iter().copied() {
+        let family = pair(c, d)?;
+        check_eq(family.next_exchange(0, 1, t, end), forth)?;
+        check_eq(family.next_exchange(1, 0, t, end), back)?;
+    }
+    Ok(())
+}
 
 #[test]
 fn signs() -> Result<(), Fail> {
-    let rows = [
-        Row {
-            why: "gap above 0, closing, meets on a minute",
-            c: Line(500, 10),
-            d: Line(800, 4),
-            t: 0,
-            end: ALL,
-            forth: Some(51),
-            back: Some(50),
-        },
-        Row {
-            why: "gap below 0, closing, meets on a minute",
-            c: Line(800, 4),
-            d: Line(500, 10),
-            t: 0,
-            end: ALL,
-            forth: Some(50),
-            back: Some(51),
-        },
-        Row {
-            why: "gap above 0, closing, meets between minutes",
-            c: Line(500, 10),
-            d: Line(801, 4),
-            t: 0,
-            end: ALL,
-            forth: Some(51),
-            back: Some(51),
-        },
-        Row {
-            why: "gap below 0, closing, meets between minutes",
-            c: Line(801, 4),
-            d: Line(500, 10),
-            t: 0,
-            end: ALL,
-            forth: Some(51),
-            back: Some(51),
-        },
-        Row {
-            why: "gap above 0, opening: met before opening",
-            c: Line(500, 4),
-            d: Line(801, 10),
-            t: 0,
-            end: ALL,
-            forth: None,
-            back: None,
-        },
-        Row {
-            why: "gap below 0, opening: met before opening",
-            c: Line(801, 10),
-            d: Line(500, 4),
-            t: 0,
-            end: ALL,
-            forth: None,
-            back: None,
-        },
-        Row {
-            why: "falling and rising at the largest rates",
-            c: Line(1_000_000_000, -1_000_000),
-            d: Line(0, 1_000_000),
-            t: 0,
-            end: ALL,
-            forth: Some(500),
-            back: Some(501),
-        },
-        Row {
-            why: "both falling",
-            c: Line(1_000, -7),
-            d: Line(900, -2),
-            t: 0,
-            end: ALL,
-            forth: Some(20),
-            back: Some(21),
-        },
-    ];
-    for row in rows.iter() {
-        agrees(row)?;
-    }
-    Ok(())
+    agree(
+        &[
+            // the gap is above 0 and closes, on a minute
+            (Line(500, 10), Line(800, 4), 0, ALL, Some(51), Some(50)),
+            // below 0
+            (Line(800, 4), Line(500, 10), 0, ALL, Some(50), Some(51)),
+            // above 0, between two minutes
+            (Line(500, 10), Line(801, 4), 0, ALL, Some(51), Some(51)),
+            // below 0, between two minutes
+            (Line(801, 4), Line(500, 10), 0, ALL, Some(51), Some(51)),
+            // the gap is above 0 and opens: they met before opening
+            (Line(500, 4), Line(801, 10), 0, ALL, None, None),
+            // below 0
+            (Line(801, 10), Line(500, 4), 0, ALL, None, None),
+            // both drain
+            (Line(1_000, -7), Line(900, -2), 0, ALL, Some(20), Some(21)),
+        ],
+    )
 }
 
 #[test]
 fn ties() -> Result<(), Fail> {
-    let rows = [
-        Row {
-            why: "the same hopper twice",
-            c: Line(7, 3),
-            d: Line(7, 3),
-            t: 0,
-            end: ALL,
-            forth: None,
-            back: None,
-        },
-        Row {
-            why: "one rate, another fill",
-            c: Line(7, 3),
-            d: Line(8, 3),
-            t: 0,
-            end: ALL,
-            forth: None,
-            back: None,
-        },
-        Row {
-            why: "level at opening, the first rises",
-            c: Line(9, 1),
-            d: Line(9, 0),
-            t: 0,
-            end: ALL,
-            forth: Some(1),
-            back: None,
-        },
-        Row {
-            why: "level at opening, the first falls",
-            c: Line(9, -1),
-            d: Line(9, 0),
-            t: 0,
-            end: ALL,
-            forth: None,
-            back: Some(1),
-        },
-        Row {
-            why: "asked at the tie",
-            c: Line(500, 10),
-            d: Line(800, 4),
-            t: 50,
-            end: ALL,
-            forth: Some(51),
-            back: None,
-        },
-        Row {
-            why: "asked just before the tie",
-            c: Line(500, 10),
-            d: Line(800, 4),
-            t: 49,
-            end: ALL,
-            forth: Some(51),
-            back: Some(50),
-        },
-        Row {
-            why: "asked just after the tie",
-            c: Line(500, 10),
-            d: Line(800, 4),
-            t: 51,
-            end: ALL,
-            forth: None,
-            back: None,
-        },
-    ];
-    for row in rows.iter() {
-        agrees(row)?;
-    }
-    Ok(())
+    agree(
+        &[
+            // the same hopper twice
+            (Line(7, 3), Line(7, 3), 0, ALL, None, None),
+            // one rate and another fill
+            (Line(7, 3), Line(8, 3), 0, ALL, None, None),
+            // level at opening, and the first gains
+            (Line(9, 1), Line(9, 0), 0, ALL, Some(1), None),
+            // level at opening, and the first loses
+            (Line(9, -1), Line(9, 0), 0, ALL, None, Some(1)),
+            // asked just before the tie, at it and just after it
+            (Line(500, 10), Line(800, 4), 49, ALL, Some(51), Some(50)),
+            (Line(500, 10), Line(800, 4), 50, ALL, Some(51), None),
+            (Line(500, 10), Line(800, 4), 51, ALL, None, None),
+        ],
+    )
 }
 
 #[test]
 fn ends() -> Result<(), Fail> {
-    let rows = [
-        Row {
-            why: "the end is the exchange of one order",
-            c: Line(500, 10),
-            d: Line(800, 4),
-            t: 0,
-            end: 50,
-            forth: None,
-            back: Some(50),
-        },
-        Row {
-            why: "the end is before both",
-            c: Line(500, 10),
-            d: Line(800, 4),
-            t: 0,
-            end: 49,
-            forth: None,
-            back: None,
-        },
-        Row {
-            why: "the end is the start",
-            c: Line(500, 10),
-            d: Line(800, 4),
-            t: 49,
-            end: 49,
-            forth: None,
-            back: None,
-        },
-        Row {
-            why: "the end is before the start",
-            c: Line(500, 10),
-            d: Line(800, 4),
-            t: 40,
-            end: 30,
-            forth: None,
-            back: None,
-        },
-        Row {
-            why: "exchanges at the last minute and one before",
-            c: Line(0, 1),
-            d: Line(999_999, 0),
-            t: 0,
-            end: ALL,
-            forth: Some(1_000_000),
-            back: Some(999_999),
-        },
-        Row {
-            why: "level at the last minute, never past it",
-            c: Line(0, 1),
-            d: Line(1_000_000, 0),
-            t: 0,
-            end: ALL,
-            forth: None,
-            back: Some(1_000_000),
-        },
-        Row {
-            why: "meets past the last minute",
-            c: Line(0, 1),
-            d: Line(1_000_001, 0),
-            t: 0,
-            end: ALL,
-            forth: None,
-            back: None,
-        },
-        Row {
-            why: "an end past the last minute is read as the last",
-            c: Line(0, 1),
-            d: Line(1_000_000, 0),
-            t: 0,
-            end: 4_294_967_295,
-            forth: None,
-            back: Some(1_000_000),
-        },
-        Row {
-            why: "a start past the last minute is read as the last",
-            c: Line(0, 1),
-            d: Line(1_000_000, 0),
-            t: 1_000_001,
-            end: 4_294_967_295,
-            forth: None,
-            back: None,
-        },
-    ];
-    for row in rows.iter() {
-        agrees(row)?;
-    }
-    Ok(())
+    agree(
+        &[
+            // the end is the exchange of one order, and before both
+            (Line(500, 10), Line(800, 4), 0, 50, None, Some(50)),
+            (Line(500, 10), Line(800, 4), 0, 49, None, None),
+            // the end is the start, and before it
+            (Line(500, 10), Line(800, 4), 49, 49, None, None),
+            (Line(500, 10), Line(800, 4), 40, 30, None, None),
+            // level at the last minute but one, at the last, and past it
+            (
+                Line(0, 1),
+                Line(999_999, 0),
+                0,
+                ALL,
+                Some(ALL),
+                Some(999_999),
+            ),
+            (Line(0, 1), Line(1_000_000, 0), 0, ALL, None, Some(ALL)),
+            (Line(0, 1), Line(1_000_001, 0), 0, ALL, None, None),
+            // an end past the last minute is read as the last, and so is a start
+            (Line(0, 1), Line(1_000_000, 0), 0, u32::MAX, None, Some(ALL)),
+            (
+                Line(0, 1),
+                Line(1_000_000, 0),
+                1_000_001,
+                u32::MAX,
+                None,
+                None,
+            ),
+        ],
+    )
+}
+
+#[test]
+fn largest_rates() -> Result<(), Fail> {
+    let full = Line(1_000_000_000, -1_000_000);
+    let empty = Line(0, 1_000_000);
+    agree(
+        &[
+            (full, empty, 0, ALL, Some(500), Some(501)),
+            (empty, full, 0, ALL, Some(501), Some(500)),
+        ],
+    )
 }
 
 #[test]
@@ -297,12 +141,6 @@ fn compared_at_times() -> Result<(), Fail> {
         check_eq(family.compare(1, 0, t), back)?;
     }
     Ok(())
-}
-
-fn agrees(row: &Row) -> Result<(), Fail> {
-    let family = pair(row.c, row.d)?;
-    check_eq(family.next_exchange(0, 1, row.t, row.end), row.forth).note(row.why)?;
-    check_eq(family.next_exchange(1, 0, row.t, row.end), row.back).note(row.why)
 }
 
 // The same question, answered by comparing at every minute.

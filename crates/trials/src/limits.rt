@@ -7,120 +7,39 @@ use hoppers::Hopper;
 use hoppers::HopperPriced;
 use std::test::*;
 
-#[derive(Drop)]
-struct Row {
-    why: &'static str,
-    fill: u32,
-    rate: i32,
-    capacity: u32,
-    made: bool,
-}
-
 #[test]
 fn edges() -> Result<(), Fail> {
     let rows = [
-        Row {
-            why: "the smallest capacity",
-            fill: 0,
-            rate: 0,
-            capacity: 1,
-            made: true,
-        },
-        Row {
-            why: "no capacity",
-            fill: 0,
-            rate: 0,
-            capacity: 0,
-            made: false,
-        },
-        Row {
-            why: "the largest capacity",
-            fill: 0,
-            rate: 0,
-            capacity: 1_000_000_000,
-            made: true,
-        },
-        Row {
-            why: "one over the largest capacity",
-            fill: 0,
-            rate: 0,
-            capacity: 1_000_000_001,
-            made: false,
-        },
-        Row {
-            why: "the largest number as a capacity",
-            fill: 0,
-            rate: 0,
-            capacity: 4_294_967_295,
-            made: false,
-        },
-        Row {
-            why: "full at opening",
-            fill: 3_000,
-            rate: 10,
-            capacity: 3_000,
-            made: true,
-        },
-        Row {
-            why: "one coin over the capacity",
-            fill: 3_001,
-            rate: 10,
-            capacity: 3_000,
-            made: false,
-        },
-        Row {
-            why: "the largest fill",
-            fill: 1_000_000_000,
-            rate: 0,
-            capacity: 1_000_000_000,
-            made: true,
-        },
-        Row {
-            why: "the fastest rate",
-            fill: 0,
-            rate: 1_000_000,
-            capacity: 1,
-            made: true,
-        },
-        Row {
-            why: "one over the fastest rate",
-            fill: 0,
-            rate: 1_000_001,
-            capacity: 1,
-            made: false,
-        },
-        Row {
-            why: "the fastest way out",
-            fill: 0,
-            rate: -1_000_000,
-            capacity: 1,
-            made: true,
-        },
-        Row {
-            why: "one over the fastest way out",
-            fill: 0,
-            rate: -1_000_001,
-            capacity: 1,
-            made: false,
-        },
-        Row {
-            why: "the smallest number as a rate",
-            fill: 0,
-            rate: -2_147_483_648,
-            capacity: 1,
-            made: false,
-        },
+        // the smallest capacity, and none
+        (0, 0, 1, true),
+        (0, 0, 0, false),
+        // the largest capacity, one over it, and the largest number
+        (0, 0, 1_000_000_000, true),
+        (0, 0, 1_000_000_001, false),
+        (0, 0, u32::MAX, false),
+        // full at opening, and one coin over the capacity
+        (3_000, 10, 3_000, true),
+        (3_001, 10, 3_000, false),
+        // the largest fill
+        (1_000_000_000, 0, 1_000_000_000, true),
+        // the fastest rate, and one over it
+        (0, 1_000_000, 1, true),
+        (0, 1_000_001, 1, false),
+        // the same for coins that go out, and the smallest number
+        (0, -1_000_000, 1, true),
+        (0, -1_000_001, 1, false),
+        (0, i32::MIN, 1, false),
     ];
-    for row in rows.iter() {
-        match Hopper::new(row.fill, row.rate, row.capacity) {
+    for (fill, rate, capacity, made) in rows {
+        match Hopper::new(fill, rate, capacity) {
             Ok(hopper) => {
-                check(row.made).note(row.why)?;
-                check_eq(hopper.fill(), row.fill)?;
-                check_eq(hopper.rate(), row.rate)?;
-                check_eq(hopper.capacity(), row.capacity)?;
+                check(made)?;
+                check_eq(hopper.fill(), fill)?;
+                check_eq(hopper.rate(), rate)?;
+                check_eq(hopper.capacity(), capacity)?;
             }
             Err(refusal) => {
-                check(!row.made).note(row.why)?;
+                check(!made)?;
                 check_eq(refusal, Refusal::OutsideLimits)?;
             }
         }
@@ -131,40 +50,19 @@ fn edges() -> Result<(), Fail> {
 #[test]
 fn fills() -> Result<(), Fail> {
     let rows = [
-        (
-            1_000_000_000,
-            1_000_000,
-            1_000_000,
-            1_001_000_000_000i64,
-            "the largest fill",
-        ),
-        (
-            0,
-            -1_000_000,
-            1_000_000,
-            -1_000_000_000_000,
-            "the smallest, below 0",
-        ),
-        (500, 10, 0, 500, "at opening"),
-        (
-            500,
-            10,
-            300,
-            3_500,
-            "past the capacity, which holds nothing back",
-        ),
-        (
-            0,
-            1,
-            1_000_001,
-            1_000_000,
-            "a time past the last is read as the last",
-        ),
-        (0, 1, 4_294_967_295, 1_000_000, "so is the largest number"),
+        // the largest amount, and the smallest
+        (1_000_000_000, 1_000_000, 1_000_000, 1_001_000_000_000i64),
+        (0, -1_000_000, 1_000_000, -1_000_000_000_000),
+        // at opening, and past the capacity, which holds nothing back
+        (500, 10, 0, 500),
+        (1_000_000_000, 10, 300, 1_000_003_000),
+        // a time past the last is read as the last
+        (0, 1, 1_000_001, 1_000_000),
+        (0, 1, u32::MAX, 1_000_000),
     ];
-    for (fill, rate, t, amount, why) in rows {
+    for (fill, rate, t, amount) in rows {
         let hopper = Hopper::new(fill, rate, 1_000_000_000)?;
-        check_eq(hopper.amount_at(t), amount).note(why)?;
+        check_eq(hopper.amount_at(t), amount)?;
     }
     Ok(())
 }

@@ -15,95 +15,47 @@ use hoppers::HopperTurning;
 use slots::SlotsPlaces;
 use std::test::*;
 
-// A first time, the answer for three cells, and what they then hold; they hold 7 before.
-#[derive(Drop)]
-struct Row {
-    why: &'static str,
-    slot: u8,
-    first: u32,
-    answer: Result<(), Refusal>,
-    cells: [i64; 3],
-}
-
+// What three cells hold before a run.
 const UNTOUCHED: [i64; 3] = [7, 7, 7];
 
+// A slot, a first time, the answer for three cells, and what they hold then.
+type Row = (u8, u32, Result<(), Refusal>, [i64; 3]);
+
 const ROWS: [Row; 8] = [
-    Row {
-        why: "from opening",
-        slot: 0,
-        first: 0,
-        answer: Ok(()),
-        cells: [500, 510, 520],
-    },
-    Row {
-        why: "falling below 0",
-        slot: 1,
-        first: 199,
-        answer: Ok(()),
-        cells: [4, 0, -4],
-    },
-    Row {
-        why: "up to the last time",
-        slot: 0,
-        first: 999_998,
-        answer: Ok(()),
-        cells: [10_000_480, 10_000_490, 10_000_500],
-    },
-    Row {
-        why: "one past the last time",
-        slot: 0,
-        first: 999_999,
-        answer: Err(Refusal::PastEnd),
-        cells: UNTOUCHED,
-    },
-    Row {
-        why: "a first time past the last",
-        slot: 0,
-        first: 1_000_001,
-        answer: Err(Refusal::PastEnd),
-        cells: UNTOUCHED,
-    },
-    Row {
-        why: "the largest number as a first time",
-        slot: 0,
-        first: 4_294_967_295,
-        answer: Err(Refusal::PastEnd),
-        cells: UNTOUCHED,
-    },
-    Row {
-        why: "an empty slot",
-        slot: 9,
-        first: 0,
-        answer: Err(Refusal::SlotEmpty),
-        cells: UNTOUCHED,
-    },
-    Row {
-        why: "past the end and empty: the end comes first",
-        slot: 9,
-        first: 999_999,
-        answer: Err(Refusal::PastEnd),
-        cells: UNTOUCHED,
-    },
+    // from opening, and below 0
+    (0, 0, Ok(()), [500, 510, 520]),
+    (1, 199, Ok(()), [4, 0, -4]),
+    // up to the last time, and one past it
+    (0, 999_998, Ok(()), [10_000_480, 10_000_490, 10_000_500]),
+    (0, 999_999, Err(Refusal::PastEnd), UNTOUCHED),
+    // a first time past the last
+    (0, 1_000_001, Err(Refusal::PastEnd), UNTOUCHED),
+    (0, u32::MAX, Err(Refusal::PastEnd), UNTOUCHED),
+    // an empty slot, and an empty slot past the end: the end is looked at first
+    (9, 0, Err(Refusal::SlotEmpty), UNTOUCHED),
+    (9, 999_999, Err(Refusal::PastEnd), UNTOUCHED),
 ];
 
-fn priced<F: PricedFamily>(family: &F, row: &Row) -> Result<(), Fail> {
+fn as_priced<F: PricedFamily>(family: &F, row: Row) -> Result<(), Fail> {
+    let (slot, first, answer, told) = row;
     let mut cells = UNTOUCHED;
-    check_eq(family.amounts(row.slot, row.first, &mut cells), row.answer).note(row.why)?;
-    check_eq(cells, row.cells).note(row.why)
+    check_eq(family.amounts(slot, first, &mut cells), answer)?;
+    check_eq(cells, told)
 }
 
-fn turning<T: TurningFamily>(family: &T, row: &Row) -> Result<(), Fail> {
+fn as_turning<T: TurningFamily>(family: &T, row: Row) -> Result<(), Fail> {
+    let (slot, first, answer, told) = row;
     let mut cells = UNTOUCHED;
-    check_eq(family.amounts(row.slot, row.first, &mut cells), row.answer).note(row.why)?;
-    check_eq(cells, row.cells).note(row.why)
+    check_eq(family.amounts(slot, first, &mut cells), answer)?;
+    check_eq(cells, told)
 }
 
 #[test]
 fn three_cells() -> Result<(), Fail> {
     let family = pair(Line(500, 10), Line(800, -4))?;
-    for row in ROWS.iter() {
-        priced(&family, row)?;
-        turning(&family, row)?;
+    for row in ROWS {
+        as_priced(&family, row)?;
+        as_turning(&family, row)?;
     }
     Ok(())
 }

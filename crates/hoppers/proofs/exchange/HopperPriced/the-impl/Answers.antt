@@ -1,4 +1,4 @@
-use Rattle.hoppers.proofs.Lines.{fills-sized, fills-few, fills-turn}
+use Rattle.hoppers.proofs.Fills.{fills-sized, fills-few, fills-turn}
 use Rattle.hoppers.proofs.exchange.HopperPriced.the-impl.Needs as need
 
 pub sized-law : need.sized-law

@@ -42,11 +42,11 @@ pub fills-few : FewChanges 1 (byAmount fillAt)
 fills-few = few-if-steady fillAt (λ c d. fills-steady c d 0 1000000)
 
 -- two lines never turn, so any time is a turning time
-pub turn-at-zero : (c d : Hopper) → TurnsAt fillAt c d 0
-turn-at-zero c d = (omega arith, fills-steady c d 0 0, fills-steady c d 0 1000000)
+pub turn-anywhere : (c d : Hopper) (m : ℕ) → m ≤ 1000000 → TurnsAt fillAt c d m
+turn-anywhere c d m upto = (upto, fills-steady c d 0 m, fills-steady c d m 1000000)
 
 pub fills-turn : Turning fillAt
-fills-turn c d = (0, turn-at-zero c d)
+fills-turn c d = (0, turn-anywhere c d 0 (omega arith))
 
 -- from a time on, "c is at or before d" is "the gap at that time, moved on by the difference of the
 -- rates, is not negative"
@@ -60,15 +60,6 @@ gap-tells c d gap drift t u g k after upto =
     let known : clamp u ≡ u = omega arith in
     let gap-is : line gap drift (u - t) ≡ fillAt d u -ℤ fillAt c u = cc in
     ap (leZ (pos 0)) gap-is ∙ sym (le-by-gap (fillAt c u) (fillAt d u)) ∙ ap (byAmount fillAt c d) (sym known)
-
--- what crossing tells of the gap is what is asked of the two hoppers
-pub exchange-found : (c d : Hopper) (gap drift : ℤ) (t end from until : ℕ) (r : Option ℕ) → from ≡ clamp t → until ≡ clamp end
-    → gap ≡ fillAt d from -ℤ fillAt c from → drift ≡ d .rate -ℤ c .rate
-    → FirstChange (λ u. notNegative gap drift (u - from)) from until r → NextChange (fact (byAmount fillAt) c d) t end r
-exchange-found c d gap drift t end from until r start stop g k first =
-    rw (← start, ← stop)
-    (first-change-alike _ _ from until r
-    (λ u after upto. gap-tells c d gap drift from u g k after (omega arith)) first)
 
 -- a difference of small numbers, as it is kept in 64 bits
 pub difference-kept : (x y z w : ℤ) → x ≡ z → y ≡ w → natAbs z ≤ 1001000000000 → natAbs w ≤ 1001000000000
