@@ -1,3 +1,4 @@
 mod Until
 mod Beaten
 mod Told
+mod Tried

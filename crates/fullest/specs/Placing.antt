@@ -1,17 +1,39 @@
--- What setting up a hopper in a slot answers.
+-- What setting up hoppers in their slots answers and changes.
 use mathlib.Core.Path.{_≡_}
-use mathlib.Core.Logic.{_⊎_}
+use mathlib.Core.Bool.{true}
+use mathlib.Core.List.{List, [], _∷_}
+use mathlib.Core.Logic.{_⊎_, _≢_}
 use Prim.Native.Nat.{ℕ}
-use lib.IntN.{ℤ}
+use Rattle.std.specs.Options.{isSome, Cases}
+use Rattle.std.specs.declared.option.Option.the-variants.{None}
 use Rattle.std.specs.declared.result.Result.{Result}
 use Rattle.std.specs.declared.result.Result.the-variants.{Ok, Err}
 use Rattle.family.specs.declared.refusal.Refusal.{Refusal}
-use Rattle.family.specs.Slots.{Cards, PutAnswer}
-use Rattle.hoppers.specs.Fill.{Making}
+use Rattle.family.specs.declared.refusal.Refusal.the-variants.{OutsideLimits, SlotFilled}
+use Rattle.family.specs.Slots.{Cards}
+use Rattle.hoppers.specs.Fill.{MadeOf}
+use Rattle.hoppers.specs.Limits.{Limits}
 use Rattle.hoppers.specs.declared.hopper.Hopper.{Hopper}
+use Rattle.fullest.specs.declared.reading.Reading.{Reading}
+use Rattle.fullest.specs.declared.reading.Attempt.{Attempt}
 
--- a hopper is made of the numbers and put, or none can be made of them and that is the refusal
-abbrev pub Placing : Cards Hopper → ℕ → ℕ → ℤ → ℕ → Result Unit Refusal → Cards Hopper → Type 0
-Placing cards slot fill rate capacity r after =
-    ((h : Hopper) × Making fill rate capacity (Ok h) × PutAnswer cards slot h r after)
-    ⊎ ((e : Refusal) × Making fill rate capacity (Err e) × (r ≡ Err e))
+abbrev Sound : Reading → Type 0
+Sound s = Limits (s .fill) (s .rate) (s .capacity)
+
+-- a hopper of the numbers read stands in the slot then, and no other slot is touched; or it is refused, for
+-- its numbers first and then for its slot, and nothing changes
+abbrev pub Placing : Cards Hopper → Reading → Result Unit Refusal → Cards Hopper → Type 0
+Placing cards s (Ok _) after =
+    Sound s × (cards (s .slot) ≡ None)
+    × Cases (after (s .slot)) ⊥ (MadeOf (s .fill) (s .rate) (s .capacity))
+    × ((k : ℕ) → k ≢ s .slot → after k ≡ cards k)
+Placing cards s (Err e) after =
+    (((e ≡ OutsideLimits) × (Sound s → ⊥)) ⊎ ((e ≡ SlotFilled) × Sound s × (isSome (cards (s .slot)) ≡ true)))
+    × (after ≡ cards)
+
+-- each hopper is tried in turn, and its answer kept beside it
+abbrev pub SetUp : Cards Hopper → List Reading → List Attempt → Cards Hopper → Type 0
+SetUp cards [] [] after = after ≡ cards
+SetUp cards [] (a ∷ rest) after = ⊥
+SetUp cards (s ∷ ss) [] after = ⊥
+SetUp cards (s ∷ ss) (a ∷ rest) after = (mid : Cards Hopper) × (a .reading ≡ s) × Placing cards s (a .answer) mid × SetUp mid ss rest after

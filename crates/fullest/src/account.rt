@@ -1,105 +1,68 @@
-// The account that the program prints.
+// The account of a watch: which hoppers were set up, and which of them leads at each minute.
+ghost use mathlib.Core.Path.{_≡_};
+ghost use Rattle.std.specs.Of.Vec.{vec-items};
+ghost use Rattle.std.specs.Vec.{made};
+ghost use Rattle.fullest.specs.Placing.{Placing, SetUp};
+ghost use Rattle.fullest.specs.Stretches.{Chart};
 use crate::chart::stretches;
-use crate::place::Reading;
-use crate::place::place;
-use cards::ByAmountFamily;
-use cards::ByAmountPriced;
+use crate::reading::Attempt;
+use crate::reading::Reading;
+use crate::stretch::Stretch;
 use family::Family;
 use family::PricedFamily;
+use family::Refusal;
 use hoppers::Hopper;
-use hoppers::HopperExchanging;
-use hoppers::HopperPriced;
-use hoppers::Hoppers;
-use layers::Mirror;
-use layers::MirrorFamily;
-use layers::MirrorPriced;
-use slots::SlotsPlaces;
-use std::error::AnyError;
+use std::alloc::AllocError;
+use std::alloc::Global;
 
-// Slot, opening fill, rate and capacity. Slots 2 and 7 trade places at minute 50, when both hold 1,000
-// coins; slots 2 and 4 are level at minute 250; slot 9 holds as much as slot 7 throughout; slot 200 drains.
-// The last two are refused.
-const READINGS: [(u8, u32, i32, u32); 7] = [
-    (2, 500, 10, 3_000),
-    (7, 800, 4, 5_000),
-    (4, 0, 12, 2_000),
-    (9, 800, 4, 900),
-    (200, 750, -3, 1_000),
-    (30, 3_001, 10, 3_000),
-    (2, 20, 1, 100),
-];
-
-// Sets up the hoppers and tells the fullest at each minute.
-pub fn tell(rt: &LibcRuntime) -> Result<(), AnyError> {
-    let mut family = Mirror::over(Hoppers::new());
-    println!(rt, "Setting up hoppers")?;
-    for (slot, fill, rate, capacity) in READINGS {
-        let reading = Reading {
-            slot,
-            fill,
-            rate,
-            capacity,
-        };
-        set_up(rt, &mut family, reading)?;
-    }
-    println!(rt, "Hoppers standing")?;
-    list_standing(rt, &family)?;
-    println!(rt, "The fullest hopper at each minute")?;
-    list_fullest(rt, &family)
+#[derive(Drop)]
+pub struct Account<F> {
+    pub attempts: Vec<Attempt>,
+    pub family: F,
+    pub stretches: Vec<Stretch>,
 }
 
-// Tries to set up one hopper, and tells how that went.
+impl<F: PricedFamily<Card = Hopper> + Drop> Account<F> {
+    // Sets the hoppers up in a family, and charts it.
+    pub fn of(heap: Global, mut family: F, readings: &[Reading]) -> Result<Account<F>, AllocError>
+        ensures { λ r. ⌜ made r (λ a. SetUp (F·Family .slots family) (now (readings .entry)) (vec-items (a .attempts)) (F·Family .slots (a .family)) × Chart (F·Family .before (a .family)) (F·Family .slots (a .family)) (F·PricedFamily .amount (a .family)) (vec-items (a .stretches))) ⌝ }
+    {
+        let attempts = set_up(heap, &mut family, readings)?;
+        let stretches = stretches(heap, &family)?;
+        Ok(Account {
+            attempts,
+            family,
+            stretches,
+        })
+    }
+}
+
+// Tries each hopper in turn, and tells what came of it.
 fn set_up<F: Family<Card = Hopper>>(
-    rt: &LibcRuntime,
+    heap: Global,
     family: &mut F,
-    reading: Reading,
-) -> Result<(), AnyError> {
-    let slot = reading.slot;
-    let fill = reading.fill;
-    let capacity = reading.capacity;
-    print!(
-        rt,
-        "  slot {slot}, with {fill} coins in a capacity of {capacity}: "
-    )?;
-    match place(family, reading) {
-        Ok(()) => println!(rt, "set up")?,
-        Err(refusal) => {
-            let number = refusal.number();
-            let reason = refusal.reason();
-            println!(rt, "refusal {number}, {reason}")?
-        }
+    readings: &[Reading],
+) -> Result<Vec<Attempt>, AllocError>
+    ensures answers { λ r. ⌜ made r (λ v. SetUp (F·Family .slots (now (family .entry))) (now (readings .entry)) (vec-items v) (F·Family .slots (now (family .exit)))) ⌝ }
+    ensures order { λ _. ⌜ F·Family .before (now (family .exit)) ≡ F·Family .before (now (family .entry)) ⌝ }
+{
+    let mut attempts = Vec::new(heap);
+    for reading in readings {
+        let answer = place(family, *reading);
+        attempts.push(Attempt {
+            reading: *reading,
+            answer,
+        })?;
     }
-    Ok(())
+    Ok(attempts)
 }
 
-// Lists the hoppers that stand.
-fn list_standing<F: Family<Card = Hopper>>(rt: &LibcRuntime, family: &F) -> Result<(), AnyError> {
-    for slot in 0..=255u8 {
-        if let Some(hopper) = family.card(slot) {
-            let fill = hopper.fill();
-            let rate = hopper.rate();
-            println!(
-                rt,
-                "  slot {slot}: {fill} coins at opening, {rate} more each minute"
-            )?;
-        }
-    }
-    Ok(())
-}
-
-// Lists the stretches over which one hopper is the fullest. The family is a mirror, so an amount is the
-// fill with its sign turned.
-fn list_fullest<F: PricedFamily>(rt: &LibcRuntime, family: &F) -> Result<(), AnyError> {
-    let told = stretches(rt.alloc(), family)?;
-    for stretch in told.iter() {
-        let first = stretch.first;
-        let last = stretch.last;
-        let slot = stretch.slot;
-        let fill = -i128::from(stretch.amount);
-        println!(
-            rt,
-            "  minutes {first} to {last}: slot {slot}, with {fill} coins at minute {first}"
-        )?;
-    }
-    Ok(())
+// Makes the hopper and puts it into its slot. Refused outside the limits (3), and then where the slot is
+// filled (21); nothing changes then.
+fn place<F: Family<Card = Hopper>>(family: &mut F, reading: Reading) -> Result<(), Refusal>
+    ensures answer { λ r. ⌜ Placing (F·Family .slots (now (family .entry))) reading r (F·Family .slots (now (family .exit))) ⌝ }
+    ensures order { λ _. ⌜ F·Family .before (now (family .exit)) ≡ F·Family .before (now (family .entry)) ⌝ }
+{
+    let hopper = Hopper::new(reading.fill, reading.rate, reading.capacity)?;
+    family.put(reading.slot, hopper)
 }

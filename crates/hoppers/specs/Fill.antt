@@ -14,7 +14,11 @@ use Rattle.hoppers.specs.declared.hopper.Hopper.{Hopper}
 abbrev pub fillAt : Amount Hopper
 fillAt h t = pos (h .fill) +ℤ h .rate *ℤ pos t
 
--- a hopper is made of numbers within the limits, and of no others
+-- a hopper keeps the numbers that it was made of
+abbrev pub MadeOf : ℕ → ℤ → ℕ → Hopper → Type 0
+MadeOf fill rate capacity h = (h .fill ≡ fill) × (h .rate ≡ rate) × (h .capacity ≡ capacity)
+
+-- it is made of numbers within the limits, and of no others
 abbrev pub Making : ℕ → ℤ → ℕ → Result Hopper Refusal → Type 0
-Making fill rate capacity (Ok h) = Limits fill rate capacity × (h .fill ≡ fill) × (h .rate ≡ rate) × (h .capacity ≡ capacity)
+Making fill rate capacity (Ok h) = Limits fill rate capacity × MadeOf fill rate capacity h
 Making fill rate capacity (Err e) = (e ≡ OutsideLimits) × (Limits fill rate capacity → ⊥)

@@ -50,6 +50,7 @@ pub impl<C: Copy> Places for Slots<C> as SlotsPlaces {
     }
 
     fn card(&self, slot: u8) -> Option<C> {
-        self.places[slot as usize]
+        let place = slot as usize;
+        self.places[place]
     }
 }

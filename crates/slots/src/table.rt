@@ -1,5 +1,6 @@
 // The table itself.
 ghost use Prim.Native.Nat.{ℕ};
+ghost use lib.ListN.{getD};
 ghost use mathlib.Core.Path.{_≡_};
 ghost use Rattle.std.specs.declared.option.Option.the-variants.{None};
 ghost use Rattle.slots.specs.Held.{cardsOf};
@@ -15,7 +16,13 @@ impl<C: Copy> Slots<C> {
         ensures { λ r. ⌜ ((k : ℕ) → cardsOf r k ≡ None) ⌝ }
     {
         Slots {
-            places: [None; 256],
+            places: empty_places(),
         }
     }
+}
+
+fn empty_places<C: Copy>() -> [Option<C>; 256]
+    ensures { λ r. ⌜ ((k : ℕ) → getD r k None ≡ None) ⌝ }
+{
+    [None; 256]
 }

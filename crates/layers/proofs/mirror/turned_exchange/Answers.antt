@@ -6,4 +6,4 @@ returns g c =
     let below = c .args .below .now in
     let cards = g .F·Family .slots below in
     exchange-turned (g .F·Family .before below) (cards (c .args .i)) (cards (c .args .j)) (c .args .t) (c .args .end) (c .next-exchange .result)
-        (c .next-exchange .ensures)
+    (c .next-exchange .ensures)

@@ -1,6 +1,6 @@
 // Runs of amounts.
-use crate::pair::Line;
-use crate::pair::pair;
+use super::Line;
+use super::pair;
 use cards::ByAmountFamily;
 use cards::ByAmountPriced;
 use cards::ByAmountTurning;

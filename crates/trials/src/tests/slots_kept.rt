@@ -1,6 +1,6 @@
 // Put, lift and card.
-use crate::pair::Line;
-use crate::pair::pair;
+use super::Line;
+use super::pair;
 use cards::ByAmountFamily;
 use family::Family;
 use family::Refusal;

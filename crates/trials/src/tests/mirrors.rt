@@ -1,6 +1,6 @@
 // The mirror of hoppers, in which the fullest comes first.
-use crate::pair::Line;
-use crate::pair::pair;
+use super::Line;
+use super::pair;
 use cards::ByAmountFamily;
 use cards::ByAmountPriced;
 use family::Family;
@@ -19,7 +19,7 @@ use std::test::*;
 
 #[test]
 fn turned_round() -> Result<(), Fail> {
-    let mirror = Mirror::over(pair(Line(500, 10), Line(800, 4))?);
+    let mirror = Mirror(pair(Line(500, 10), Line(800, 4))?);
     let rows = [
         (0, false, true),
         (49, false, true),
@@ -39,7 +39,7 @@ fn turned_round() -> Result<(), Fail> {
 
 #[test]
 fn empty_slots_stay_last() -> Result<(), Fail> {
-    let mirror = Mirror::over(pair(Line(500, 10), Line(800, 4))?);
+    let mirror = Mirror(pair(Line(500, 10), Line(800, 4))?);
     check(mirror.compare(0, 9, 0))?;
     check(!mirror.compare(9, 0, 0))?;
     check(mirror.compare(8, 9, 0))?;
@@ -49,7 +49,7 @@ fn empty_slots_stay_last() -> Result<(), Fail> {
 
 #[test]
 fn amounts_are_negated() -> Result<(), Fail> {
-    let mirror = Mirror::over(pair(Line(500, 10), Line(800, -4))?);
+    let mirror = Mirror(pair(Line(500, 10), Line(800, -4))?);
     check_eq(mirror.amount_at(0, 1_000_000), Some(-10_000_500))?;
     check_eq(mirror.amount_at(9, 0), None)?;
     let mut cells = [7i64; 3];
@@ -65,7 +65,7 @@ fn amounts_are_negated() -> Result<(), Fail> {
 
 #[test]
 fn a_mirror_of_a_mirror() -> Result<(), Fail> {
-    let mut twice = Mirror::over(Mirror::over(pair(Line(500, 10), Line(800, 4))?));
+    let mut twice = Mirror(Mirror(pair(Line(500, 10), Line(800, 4))?));
     check_eq(twice.next_exchange(0, 1, 0, 1_000_000), Some(51))?;
     check_eq(twice.amount_at(0, 3), Some(530))?;
     check_eq(

@@ -1,4 +1,5 @@
 // Two hoppers to try things on.
+use cards::ByAmount;
 use cards::ByAmountFamily;
 use family::Family;
 use family::Refusal;
@@ -6,15 +7,22 @@ use hoppers::Hopper;
 use hoppers::HopperExchanging;
 use hoppers::HopperPriced;
 use hoppers::Hoppers;
+use slots::Slots;
 use slots::SlotsPlaces;
+
+mod exchanges;
+mod limits;
+mod mirrors;
+mod runs;
+mod slots_kept;
 
 // An opening fill and a rate.
 #[derive(Clone, Copy)]
-pub struct Line(pub u32, pub i32);
+struct Line(u32, i32);
 
 // The family that has the first line in slot 0, the second in slot 1, and nothing else.
-pub fn pair(c: Line, d: Line) -> Result<Hoppers, Refusal> {
-    let mut family = Hoppers::new();
+fn pair(c: Line, d: Line) -> Result<Hoppers, Refusal> {
+    let mut family = ByAmount(Slots::new());
     family.put(0, Hopper::new(c.0, c.1, 1_000_000_000)?)?;
     family.put(1, Hopper::new(d.0, d.1, 1_000_000_000)?)?;
     Ok(family)

@@ -1,5 +1,5 @@
 use Rattle.slots.proofs.Alike.{alike-everywhere}
-use Rattle.slots.proofs.table.Slots.new.Needs as need
+use Rattle.slots.proofs.table.empty_places.Needs as need
 
 pub returns : need.returns
 returns g c k = alike-everywhere 256 k _

@@ -1,6 +1,6 @@
 // When two hoppers trade places, by hand and by looking at every minute.
-use crate::pair::Line;
-use crate::pair::pair;
+use super::Line;
+use super::pair;
 use cards::ByAmountFamily;
 use family::Family;
 use family::RefusalDebug;
