@@ -9,7 +9,7 @@ use slots::Places;
 #[derive(Drop)]
 pub struct ByAmount<P>(pub P);
 
-pub impl<C: ExchangingCard + Copy, P: Places<Card = C>> Family for ByAmount<P> as ByAmountFamily {
+pub impl<C: ExchangingCard, P: Places<Card = C>> Family for ByAmount<P> as ByAmountFamily {
     type Card = C;
 
     ghost slots = { λ f. P·Places .cards (f .0) };

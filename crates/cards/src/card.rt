@@ -8,7 +8,7 @@ pub trait PricedCard: Copy {
     // What a card comes to at a time.
     ghost amount: { Amount Self };
 
-    // How often at most, of any two cards, the one that is no larger changes.
+    // How often at most, for any two cards, "the first amount is no larger than the second" changes.
     ghost swaps: { ℕ };
 
     law sized: { Sized amount };

@@ -8,9 +8,7 @@ use family::PricedFamily;
 use family::Refusal;
 use slots::Places;
 
-pub impl<C: ExchangingCard + Copy, P: Places<Card = C>> PricedFamily for ByAmount<
-    P,
-> as ByAmountPriced {
+pub impl<C: ExchangingCard, P: Places<Card = C>> PricedFamily for ByAmount<P> as ByAmountPriced {
     ghost amount = { λ _. C·PricedCard .amount };
 
     fn amount_at(&self, slot: u8, t: u32) -> Option<i64> {

@@ -3,7 +3,7 @@ ghost use Prim.Native.Nat.{_+_, _≤_};
 ghost use mathlib.Core.Path.{_≡_};
 ghost use lib.ListN.{length};
 ghost use Rattle.std.specs.declared.option.Option.the-variants.{Some};
-ghost use Rattle.family.specs.Amounts.{Filled, RunAnswer};
+ghost use Rattle.family.specs.Amounts.{CellsHold, RunAnswer};
 use crate::card::PricedCard;
 use family::LAST_TIME;
 use family::Refusal;
@@ -25,14 +25,14 @@ pub(crate) fn run<C: PricedCard>(
     let Some(card) = held else {
         return Err(Refusal::SlotEmpty);
     };
-    fill(&card, first, cells);
+    write_cells(&card, first, cells);
     Ok(())
 }
 
 // Writes every cell.
-fn fill<C: PricedCard>(card: &C, first: u32, cells: &mut [i64])
+fn write_cells<C: PricedCard>(card: &C, first: u32, cells: &mut [i64])
     requires { ⌜ first + length (now cells) ≤ 1000001 ⌝ }
-    ensures { λ _. ⌜ Filled (C·PricedCard .amount) (Some (now (card .entry))) first (now (cells .exit)) ⌝ }
+    ensures { λ _. ⌜ CellsHold (C·PricedCard .amount) (Some (now (card .entry))) first (now (cells .exit)) ⌝ }
 {
     let mut t = first;
     for cell in cells.iter_mut() {

@@ -7,9 +7,7 @@ use family::Refusal;
 use family::TurningFamily;
 use slots::Places;
 
-pub impl<C: TurningCard + Copy, P: Places<Card = C>> TurningFamily for ByAmount<
-    P,
-> as ByAmountTurning {
+pub impl<C: TurningCard, P: Places<Card = C>> TurningFamily for ByAmount<P> as ByAmountTurning {
     type Card = C;
 
     ghost slots = { λ f. P·Places .cards (f .0) };

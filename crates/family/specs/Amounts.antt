@@ -1,12 +1,12 @@
 -- Amounts: what a card comes to at a time, the order they give, a run of them, and turning times.
 use mathlib.Core.Path.{_≡_}
+use mathlib.Core.Bool.{true}
 use mathlib.Core.List.{List}
 use mathlib.Core.Logic.{_⊎_}
 use Prim.Native.Nat.{ℕ, _+_, _≤_, _<_}
 use lib.IntN.{ℤ, pos, natAbs, _-ℤ_}
 use lib.Signed.{leZ, _≤ℤ_}
 use lib.ListN.{length, getD}
-use mathlib.Core.Bool.{true}
 use Rattle.std.specs.Options.{isSome, mapped}
 use Rattle.std.specs.declared.option.Option.{Option}
 use Rattle.std.specs.declared.option.Option.the-variants.{None, Some}
@@ -36,29 +36,32 @@ OrderedBy {C} before amount = (c d : C) (t : ℕ) → before c d (clamp t) ≡ b
 abbrev pub amountOf : {C : Type 0} → Amount C → Option C → ℕ → Option ℤ
 amountOf amount h t = mapped (λ c. amount c (clamp t)) h
 
--- A run of amounts puts the amount at first + k into cell k. It is refused, every cell left as it was,
--- where it would pass the end, and after that where the slot is empty.
+-- a run that begins at first and has as many times as there are cells lies within the times
 abbrev pub InRange : ℕ → List ℤ → Type 0
 InRange first cells = (first ≤ 1000000) × (first + length cells ≤ 1000001)
 
-abbrev pub Filled : {C : Type 0} → Amount C → Option C → ℕ → List ℤ → Type 0
-Filled amount h first cells = (k : ℕ) → k < length cells → amountOf amount h (first + k) ≡ Some (getD cells k (pos 0))
+-- each cell k holds the amount of a slot's holding at first + k
+abbrev pub CellsHold : {C : Type 0} → Amount C → Option C → ℕ → List ℤ → Type 0
+CellsHold amount h first cells = (k : ℕ) → k < length cells → amountOf amount h (first + k) ≡ Some (getD cells k (pos 0))
 
--- the number that refuses a run, where one does
+-- a run is refused where it would pass the end, and after that where the slot is empty
 abbrev pub RunRefused : {C : Type 0} → Option C → ℕ → List ℤ → Refusal → Type 0
 RunRefused h first cells e = ((e ≡ PastEnd) × (InRange first cells → ⊥)) ⊎ ((e ≡ SlotEmpty) × InRange first cells × (h ≡ None))
 
+-- A run of amounts puts the amount at first + k into cell k. A refused one leaves every cell as it was.
 abbrev pub RunAnswer : {C : Type 0} → Amount C → Option C → ℕ → List ℤ → Result Unit Refusal → List ℤ → Type 0
-RunAnswer amount h first cells (Ok _) after = InRange first cells × (isSome h ≡ true) × (length after ≡ length cells) × Filled amount h first after
+RunAnswer amount h first cells (Ok _) after = InRange first cells × (isSome h ≡ true) × (length after ≡ length cells) × CellsHold amount h first after
 RunAnswer amount h first cells (Err e) after = RunRefused h first cells e × (after ≡ cells)
 
--- From a to b the number g never falls, or never rises.
+-- from a to b the number g never falls
 abbrev pub NeverFalls : (ℕ → ℤ) → ℕ → ℕ → Type 0
 NeverFalls g a b = (t u : ℕ) → a ≤ t → t ≤ u → u ≤ b → g t ≤ℤ g u
 
+-- from a to b it never rises
 abbrev pub NeverRises : (ℕ → ℤ) → ℕ → ℕ → Type 0
 NeverRises g a b = (t u : ℕ) → a ≤ t → t ≤ u → u ≤ b → g u ≤ℤ g t
 
+-- one of the two
 abbrev pub Steady : (ℕ → ℤ) → ℕ → ℕ → Type 0
 Steady g a b = NeverFalls g a b ⊎ NeverRises g a b
 

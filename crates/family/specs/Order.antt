@@ -25,7 +25,7 @@ pub record Preorder {C : Type 0} (before : Order C) : Type 0 where
   pub total : (c d : C) (t : ℕ) → (fact before c d t || fact before d c t) ≡ true
   pub transitive : (c d e : C) (t : ℕ) → fact before c d t ≡ true → fact before d e t ≡ true → fact before c e t ≡ true
 
--- ts are times above t, in rising order, at each of which the fact p differs from the time before
+-- the list has times above t, in rising order, at each of which the fact p differs from the time before
 abbrev pub Changes : (ℕ → Bool) → ℕ → List ℕ → Type 0
 Changes p t [] = Unit {0}
 Changes p t (u ∷ us) = (t < u) × (p u ≡ not (p (u - 1))) × Changes p u us

@@ -49,8 +49,10 @@ pub trait Family {
     // The swap bound s.
     ghost swaps: { Self → ℕ };
 
+    // The first law.
     law ordered: { (f : Self) → Preorder (before f) };
 
+    // The second law, and that its bound is 1 or 2.
     law few: { (f : Self) → FewChanges (swaps f) (before f) };
 
     law bounded: { (f : Self) → (1 ≤ swaps f) × (swaps f ≤ 2) };

@@ -23,9 +23,11 @@ pub struct Account<F> {
 }
 
 impl<F: PricedFamily<Card = Hopper> + Drop> Account<F> {
-    // Sets the hoppers up in a family, and charts it.
+    // Sets the hoppers up in a family, in order, and charts what stands then.
     pub fn of(heap: Global, mut family: F, readings: &[Reading]) -> Result<Account<F>, AllocError>
-        ensures { λ r. ⌜ made r (λ a. SetUp (F·Family .slots family) (now (readings .entry)) (vec-items (a .attempts)) (F·Family .slots (a .family)) × Chart (F·Family .before (a .family)) (F·Family .slots (a .family)) (F·PricedFamily .amount (a .family)) (vec-items (a .stretches))) ⌝ }
+        ensures attempts { λ r. ⌜ made r (λ a. SetUp (F·Family .slots family) (now (readings .entry)) (vec-items (a .attempts)) (F·Family .slots (a .family))) ⌝ }
+        ensures order { λ r. ⌜ made r (λ a. F·Family .before (a .family) ≡ F·Family .before family) ⌝ }
+        ensures chart { λ r. ⌜ made r (λ a. Chart (F·Family .before (a .family)) (F·Family .slots (a .family)) (F·PricedFamily .amount (a .family)) (vec-items (a .stretches))) ⌝ }
     {
         let attempts = set_up(heap, &mut family, readings)?;
         let stretches = stretches(heap, &family)?;

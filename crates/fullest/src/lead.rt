@@ -1,4 +1,4 @@
-// Who leads a family at a time, and for how long.
+// Who leads a family at a time.
 ghost use Prim.Native.Nat.{_+_};
 ghost use Rattle.fullest.specs.Lead.{Leader, LeaderBelow};
 use family::Family;

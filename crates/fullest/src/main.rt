@@ -3,7 +3,7 @@ use account::Account;
 use cards::ByAmount;
 use cards::ByAmountFamily;
 use cards::ByAmountPriced;
-use family::PricedFamily;
+use family::Family;
 use hoppers::Hopper;
 use hoppers::HopperExchanging;
 use hoppers::HopperPriced;
@@ -37,8 +37,8 @@ fn watch(rt: &LibcRuntime) -> Result<(), AnyError> {
     Ok(())
 }
 
-// The family is taken to be a mirror, so a fill is an amount with its sign turned.
-impl<F: PricedFamily<Card = Hopper>> fmt::Display for Account<F> as AccountDisplay {
+// The family is a mirror, so a fill is an amount with its sign turned.
+impl fmt::Display for Account<Mirror<Hoppers>> as AccountDisplay {
     fn fmt<W: fmt::Write>(&self, f: &mut fmt::Formatter<W>) -> fmt::Result {
         writeln!(f, "Setting up hoppers")?;
         for attempt in self.attempts.iter() {

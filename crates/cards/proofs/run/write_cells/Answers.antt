@@ -6,7 +6,7 @@ use mir.Val.{SFits}
 use borrow.Author.Needs.{needs}
 use Rattle.family.specs.Order.{clamp}
 use Rattle.cards.proofs.Cells.{one-cell-more}
-use Rattle.cards.proofs.run.fill.Needs as need
+use Rattle.cards.proofs.run.write_cells.Needs as need
 
 pub loop-cell-again : need.loop-cell-again
 loop-cell-again g c =

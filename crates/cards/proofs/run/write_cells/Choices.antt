@@ -3,7 +3,7 @@ use mathlib.Core.Path.{_≡_}
 use lib.IntN.{pos}
 use lib.ListN.{getD}
 use Rattle.family.specs.Order.{clamp}
-use Rattle.cards.proofs.run.fill.Given as given
+use Rattle.cards.proofs.run.write_cells.Given as given
 
 abbrev pub Inv-loop-cell : given.InvT-loop-cell
 Inv-loop-cell g l =
