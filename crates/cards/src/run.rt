@@ -1,6 +1,5 @@
 // A run of amounts of one card.
 ghost use Prim.Native.Nat.{_+_, _≤_};
-ghost use mathlib.Core.Path.{_≡_};
 ghost use lib.ListN.{length};
 ghost use Rattle.std.specs.declared.option.Option.the-variants.{Some};
 ghost use Rattle.family.specs.Amounts.{CellsHold, RunAnswer};

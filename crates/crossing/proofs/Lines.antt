@@ -1,15 +1,15 @@
 -- Laws of straight lines.
-use mathlib.Core.Path.{_≡_, sym, ap, _∙_}
-use mathlib.Core.Logic.{_⊎_, inl, inr}
+use mathlib.Core.Path.{_≡_, ap, _∙_}
+use mathlib.Core.Logic.{inl, inr}
 use Prim.Native.Nat.{ℕ, _+_, _-_, _*_, _≤_}
 use native.Mathlib.Omega.{arith}
 use native.Mathlib.Nat.{mul-add, add-mul}
 use lib.IntN.{ℤ, pos, negsuc, _+ℤ_, _-ℤ_, _*ℤ_}
-use lib.Signed.{leZ, _≤ℤ_, _<ℤ_}
+use lib.Signed.{leZ, _≤ℤ_}
 use borrow.Author.Differences.{ints, up, down}
 use Rattle.std.proofs.shelf.Signed.{by-ltZ}
-use Rattle.family.specs.Amounts.{Steady, NeverFalls, NeverRises}
-use Rattle.crossing.specs.Line.{line, notNegative}
+use Rattle.family.specs.Amounts.{Steady}
+use Rattle.crossing.specs.Line.{line}
 
 -- a product by a number that is not negative has the sign of the other factor
 times-rises : (k : ℤ) (n : ℕ) → pos 0 ≤ℤ k → pos 0 ≤ℤ (k *ℤ pos n)

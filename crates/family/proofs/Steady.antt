@@ -2,16 +2,15 @@
 -- at most twice.
 use mathlib.Core.Path.{_≡_, sym}
 use mathlib.Core.Bool.{Bool, true, false, not}
-use mathlib.Core.List.{List, [], _∷_}
+use mathlib.Core.List.{[], _∷_}
 use mathlib.Core.Logic.{⊎-elim}
 use Prim.Native.Nat.{ℕ, _-_, _<_, _≤_}
 use native.Mathlib.Omega.{arith}
 use lib.IntN.{ℤ, _-ℤ_}
-use lib.ListN.{length}
 use lib.Signed.{_≤ℤ_}
 use borrow.Author.Differences.{ints}
 use Rattle.std.proofs.shelf.Tests.{cases-lt}
-use Rattle.family.specs.Order.{clamp, fact, Changes, FewChanges}
+use Rattle.family.specs.Order.{clamp, fact, FewChanges}
 use Rattle.family.specs.Amounts.{Amount, byAmount, Steady, Turning}
 use Rattle.family.proofs.Change.{LastsIn, two-changes-clash}
 

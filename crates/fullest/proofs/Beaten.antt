@@ -1,6 +1,6 @@
 -- Until when a leader beats another slot.
-use mathlib.Core.Path.{_≡_, refl, sym, ap, _∙_}
-use mathlib.Core.Bool.{Bool, true, false, not, _||_}
+use mathlib.Core.Path.{_≡_, refl}
+use mathlib.Core.Bool.{Bool, true, false, _||_}
 use mathlib.Core.Logic.{_⊎_, _≢_, inl, inr, ⊎-elim}
 use Prim.Native.Nat.{ℕ, _+_, _<_, _≤_}
 use native.Mathlib.Omega.{arith}
@@ -11,7 +11,7 @@ use Rattle.std.specs.declared.option.Option.{Option}
 use Rattle.std.specs.declared.option.Option.the-variants.{None, Some}
 use Rattle.family.specs.Order.{Order, Preorder, FirstChange, fact}
 use Rattle.family.specs.Slots.{Cards, slotBefore, holdingBefore}
-use Rattle.fullest.specs.Lead.{Beats, Ahead, Leader}
+use Rattle.fullest.specs.Lead.{Ahead, Leader}
 use Rattle.fullest.specs.Stretches.{HoldsUntil, earlierOf}
 use Rattle.fullest.proofs.Until.{until-change, until-both, until-alike}
 

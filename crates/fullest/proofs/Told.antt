@@ -1,6 +1,5 @@
 -- Stretches that are told one after the other.
 use mathlib.Core.Path.{_≡_, refl, sym, ap, subst, _∙_}
-use mathlib.Core.Bool.{true}
 use mathlib.Core.List.{List, [], _∷_, _++_}
 use Prim.Native.Nat.{ℕ, _+_, _-_, _<_, _≤_}
 use native.Mathlib.Omega.{arith}
@@ -11,7 +10,6 @@ use Rattle.std.specs.shelf.Lists.{All}
 use Rattle.family.specs.Order.{Order}
 use Rattle.family.specs.Slots.{Cards}
 use Rattle.family.specs.Amounts.{Amount}
-use Rattle.fullest.specs.Lead.{Leader}
 use Rattle.fullest.specs.Stretches.{HoldsUntil, Lasting, Following, Leading}
 use Rattle.fullest.specs.declared.stretch.Stretch.{Stretch}
 

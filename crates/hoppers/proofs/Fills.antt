@@ -9,10 +9,8 @@ use mir.Syntax.{w64}
 use mir.Val.{toZ, ofZ}
 use borrow.Author.Differences.{ints}
 use Rattle.std.proofs.shelf.Bits.{mul-le}
-use Rattle.std.specs.declared.option.Option.{Option}
-use Rattle.family.specs.Order.{clamp, fact, FewChanges, FirstChange, NextChange}
-use Rattle.family.specs.Amounts.{Sized, byAmount, Steady, NeverFalls, NeverRises, TurnsAt, Turning}
-use Rattle.family.proofs.Change.{first-change-alike}
+use Rattle.family.specs.Order.{clamp, fact, FewChanges}
+use Rattle.family.specs.Amounts.{Sized, byAmount, Steady, TurnsAt, Turning}
 use Rattle.family.proofs.Steady.{few-if-steady}
 use Rattle.crossing.specs.Line.{line, notNegative}
 use Rattle.crossing.proofs.Lines.{line-on, line-minus, line-steady, le-by-gap}

@@ -1,5 +1,4 @@
 -- What a mirror does to an order and to amounts.
-use Prim.Native.Nat.{ℕ}
 use lib.IntN.{negℤ}
 use Rattle.family.specs.Order.{Order}
 use Rattle.family.specs.Amounts.{Amount}

@@ -1,8 +1,6 @@
-use Prim.Native.Nat.{_+_, _-_}
-use mathlib.Core.Path.{_≡_}
+use Prim.Native.Nat.{_-_}
 use native.Mathlib.Omega.{arith}
 use borrow.Author.Differences.{ints}
-use lib.IntN.{pos, natAbs}
 use Rattle.crossing.proofs.Signs.{falls-below, rises-to-zero}
 use Rattle.crossing.proofs.wait.Needs as need
 

@@ -69,35 +69,23 @@ fn ties() -> Result<(), Fail> {
 
 #[test]
 fn ends() -> Result<(), Fail> {
+    let (c, d) = (Line(500, 10), Line(800, 4));
+    let gains = Line(0, 1);
     agree(
         &[
             // the end is the exchange of one order, and before both
-            (Line(500, 10), Line(800, 4), 0, 50, None, Some(50)),
-            (Line(500, 10), Line(800, 4), 0, 49, None, None),
+            (c, d, 0, 50, None, Some(50)),
+            (c, d, 0, 49, None, None),
             // the end is the start, and before it
-            (Line(500, 10), Line(800, 4), 49, 49, None, None),
-            (Line(500, 10), Line(800, 4), 40, 30, None, None),
+            (c, d, 49, 49, None, None),
+            (c, d, 40, 30, None, None),
             // level at the last minute but one, at the last, and past it
-            (
-                Line(0, 1),
-                Line(999_999, 0),
-                0,
-                ALL,
-                Some(ALL),
-                Some(999_999),
-            ),
-            (Line(0, 1), Line(1_000_000, 0), 0, ALL, None, Some(ALL)),
-            (Line(0, 1), Line(1_000_001, 0), 0, ALL, None, None),
+            (gains, Line(999_999, 0), 0, ALL, Some(ALL), Some(999_999)),
+            (gains, Line(1_000_000, 0), 0, ALL, None, Some(ALL)),
+            (gains, Line(1_000_001, 0), 0, ALL, None, None),
             // an end past the last minute is read as the last, and so is a start
-            (Line(0, 1), Line(1_000_000, 0), 0, u32::MAX, None, Some(ALL)),
-            (
-                Line(0, 1),
-                Line(1_000_000, 0),
-                1_000_001,
-                u32::MAX,
-                None,
-                None,
-            ),
+            (gains, Line(1_000_000, 0), 0, u32::MAX, None, Some(ALL)),
+            (gains, Line(1_000_000, 0), ALL + 1, u32::MAX, None, None),
         ],
     )
 }

@@ -1,7 +1,7 @@
 use Prim.Native.Nat.{ℕ, _<_, _≤_}
 use mathlib.Core.Path.{_≡_}
 use lib.IntN.{pos, negℤ}
-use lib.ListN.{length, getD}
+use lib.ListN.{getD}
 use Rattle.layers.proofs.negate.negate.Given as given
 
 abbrev pub Inv-loop-cell : given.InvT-loop-cell
