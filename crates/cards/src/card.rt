@@ -2,7 +2,7 @@
 ghost use Prim.Native.Nat.{ℕ, _≤_};
 ghost use mathlib.Core.Path.{_≡_};
 ghost use Rattle.family.specs.Order.{clamp, fact, FewChanges, NextChange};
-ghost use Rattle.family.specs.Amounts.{Amount, Sized, byAmount, TurnsAt, Turning};
+ghost use Rattle.family.specs.Amounts.{Amount, WithinSize, byAmount, TurnsAt, Turning};
 
 pub trait PricedCard: Copy {
     // What a card comes to at a time.
@@ -11,12 +11,13 @@ pub trait PricedCard: Copy {
     // How often at most, for any two cards, "the first amount is no larger than the second" changes.
     ghost swaps: { ℕ };
 
-    law sized: { Sized amount };
+    law sized: { WithinSize amount };
 
     law few: { FewChanges swaps (byAmount amount) };
 
     law bounded: { (1 ≤ swaps) × (swaps ≤ 2) };
 
+    // Stands here and not with the turning time that is told, since a law can cite only its own trait.
     law turns: { Turning amount };
 
     // The amount at t.

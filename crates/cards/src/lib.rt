@@ -1,8 +1,9 @@
 // Cards by their amounts: what a card type has to show so that a table of such cards is a family.
 //
-// A card type gives what a card comes to at a time, a bound on how often two cards trade places, and either
-// a formula for the next exchange of two cards, or a turning time of two cards, or both. The family then
-// comes with it: `ByAmount(Slots::new())` is the family of such cards with every slot empty.
+// A card type shows what a card comes to at a time, how often two cards trade places at most, and that any
+// two cards have a turning time. With a formula for the next exchange of two cards a table of them is a
+// priced family; where a turning time can be told, it is a turning family; it may be both.
+// `ByAmount(Slots::new())` is the family with every slot empty.
 mod by_amount;
 mod card;
 mod priced;

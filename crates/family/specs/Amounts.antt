@@ -14,15 +14,18 @@ use Rattle.std.specs.declared.result.Result.{Result}
 use Rattle.std.specs.declared.result.Result.the-variants.{Ok, Err}
 use Rattle.family.specs.declared.refusal.Refusal.{Refusal}
 use Rattle.family.specs.declared.refusal.Refusal.the-variants.{PastEnd, SlotEmpty}
-use Rattle.family.specs.Order.{clamp, Order}
+use Rattle.family.specs.Order.{lastTime, clamp, Order}
 
 -- what each card comes to at each time
 abbrev pub Amount : Type 0 → Type 0
 Amount C = C → ℕ → ℤ
 
 -- no amount is larger than this, on either side of 0
-abbrev pub Sized : {C : Type 0} → Amount C → Type 0
-Sized {C} amount = (c : C) (t : ℕ) → natAbs (amount c (clamp t)) ≤ 2000400020000000000
+abbrev pub mostAmount : ℕ
+mostAmount = 2000400020000000000
+
+abbrev pub WithinSize : {C : Type 0} → Amount C → Type 0
+WithinSize {C} amount = (c : C) (t : ℕ) → natAbs (amount c (clamp t)) ≤ mostAmount
 
 -- the order in which the smaller amount comes first
 abbrev pub byAmount : {C : Type 0} → Amount C → Order C
@@ -38,7 +41,7 @@ amountOf amount h t = mapped (λ c. amount c (clamp t)) h
 
 -- a run that begins at first and has as many times as there are cells lies within the times
 abbrev pub InRange : ℕ → List ℤ → Type 0
-InRange first cells = (first ≤ 1000000) × (first + length cells ≤ 1000001)
+InRange first cells = (first ≤ lastTime) × (first + length cells ≤ lastTime + 1)
 
 -- each cell k holds the amount of a slot's holding at first + k
 abbrev pub CellsHold : {C : Type 0} → Amount C → Option C → ℕ → List ℤ → Type 0
@@ -67,7 +70,7 @@ Steady g a b = NeverFalls g a b ⊎ NeverRises g a b
 
 -- m is a turning time of two cards: the difference of their amounts is steady up to m, and again from m on
 abbrev pub TurnsAt : {C : Type 0} → Amount C → C → C → ℕ → Type 0
-TurnsAt amount c d m = (m ≤ 1000000) × Steady (λ t. amount c t -ℤ amount d t) 0 m × Steady (λ t. amount c t -ℤ amount d t) m 1000000
+TurnsAt amount c d m = (m ≤ lastTime) × Steady (λ t. amount c t -ℤ amount d t) 0 m × Steady (λ t. amount c t -ℤ amount d t) m lastTime
 
 -- any two cards have a turning time
 abbrev pub Turning : {C : Type 0} → Amount C → Type 0

@@ -23,9 +23,9 @@
 ghost use Prim.Native.Nat.{ℕ, _≤_};
 ghost use mathlib.Core.Path.{_≡_};
 ghost use Rattle.std.specs.Vec.{refused};
-ghost use Rattle.family.specs.Order.{Order, Preorder, FewChanges, NextChange};
+ghost use Rattle.family.specs.Order.{Order, TotalPreorder, FewChanges, NextChange};
 ghost use Rattle.family.specs.Slots.{Cards, slotBefore, PutAnswer, LiftAnswer};
-ghost use Rattle.family.specs.Amounts.{Amount, Sized, OrderedBy, amountOf, RunAnswer, TurnsAt, Turning};
+ghost use Rattle.family.specs.Amounts.{Amount, WithinSize, OrderedBy, amountOf, RunAnswer, TurnsAt, Turning};
 
 mod refusal;
 
@@ -50,7 +50,7 @@ pub trait Family {
     ghost swaps: { Self → ℕ };
 
     // The first law.
-    law ordered: { (f : Self) → Preorder (before f) };
+    law ordered: { (f : Self) → TotalPreorder (before f) };
 
     // The second law, and that its bound is 1 or 2.
     law few: { (f : Self) → FewChanges (swaps f) (before f) };
@@ -90,13 +90,14 @@ pub trait Family {
         ensures { λ r. ⌜ r ≡ swaps (now (self .entry)) ⌝ };
 }
 
-// A family whose order comes from amounts: c is at or before d exactly when c's amount is no larger.
+// A family whose order comes from amounts: c is at or before d exactly when c's amount is no larger. What
+// never changes is the order; an amount may depend on the family's value.
 // A law cannot speak of the order of the trait above, so the two amount calls promise that (`orders`).
 pub trait PricedFamily: Family {
     // What a card comes to at a time.
     ghost amount: { Self → Amount Self·Card };
 
-    law sized: { (f : Self) → Sized (amount f) };
+    law sized: { (f : Self) → WithinSize (amount f) };
 
     // The slot's amount at t, or none for an empty slot.
     fn amount_at(&self, slot: u8, t: u32) -> Option<i64>
@@ -122,7 +123,7 @@ pub trait TurningFamily {
     // What a card comes to at a time; it never changes.
     ghost amount: { Self → Amount Self·Card };
 
-    law sized: { (f : Self) → Sized (amount f) };
+    law sized: { (f : Self) → WithinSize (amount f) };
 
     // A turning time exists; which one is told is left open.
     law turns: { (f : Self) → Turning (amount f) };

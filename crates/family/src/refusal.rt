@@ -1,4 +1,5 @@
-// Why a call is turned down, and by which number. A refused call changes nothing.
+// Why a call is turned down, and by which number. A refused call changes nothing. The numbers 5 to 8 are
+// faults of a day file and not of a call.
 ghost use mathlib.Core.Path.{_≡_};
 ghost use Rattle.family.specs.Refusals.{numberOf, reasonOf};
 

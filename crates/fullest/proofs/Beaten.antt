@@ -9,13 +9,13 @@ use Rattle.std.proofs.shelf.Tests.{both-ways, false≢true, true≢false, cases
 use Rattle.std.specs.Options.{isSome}
 use Rattle.std.specs.declared.option.Option.{Option}
 use Rattle.std.specs.declared.option.Option.the-variants.{None, Some}
-use Rattle.family.specs.Order.{Order, Preorder, FirstChange, fact}
+use Rattle.family.specs.Order.{Order, TotalPreorder, FirstChange, fact}
 use Rattle.family.specs.Slots.{Cards, slotBefore, holdingBefore}
 use Rattle.fullest.specs.Lead.{Ahead, Leader}
 use Rattle.fullest.specs.Stretches.{HoldsUntil, earlierOf}
 use Rattle.fullest.proofs.Until.{until-change, until-both, until-alike}
 
-module _ {C : Type 0} (before : Order C) (ordered : Preorder before) where
+module _ {C : Type 0} (before : Order C) (ordered : TotalPreorder before) where
   either-way : (x y : Bool) → (x || y) ≡ true → y ≡ false → x ≡ true
   either-way true y _ _ = refl
   either-way false y e f = absurd (both-ways y f e)

@@ -17,23 +17,24 @@ use Rattle.hoppers.specs.declared.hopper.Hopper.{Hopper}
 use Rattle.fullest.specs.declared.reading.Reading.{Reading}
 use Rattle.fullest.specs.declared.reading.Attempt.{Attempt}
 
+-- the numbers read are within the limits
 abbrev Sound : Reading → Type 0
-Sound s = Limits (s .fill) (s .rate) (s .capacity)
+Sound x = Limits (x .fill) (x .rate) (x .capacity)
 
 -- a hopper of the numbers read stands in the slot then, and no other slot is touched; or it is refused, for
 -- its numbers first and then for its slot, and nothing changes
 abbrev pub Placing : Cards Hopper → Reading → Result Unit Refusal → Cards Hopper → Type 0
-Placing cards s (Ok _) after =
-    Sound s × (cards (s .slot) ≡ None)
-    × Cases (after (s .slot)) ⊥ (MadeOf (s .fill) (s .rate) (s .capacity))
-    × ((k : ℕ) → k ≢ s .slot → after k ≡ cards k)
-Placing cards s (Err e) after =
-    (((e ≡ OutsideLimits) × (Sound s → ⊥)) ⊎ ((e ≡ SlotFilled) × Sound s × (isSome (cards (s .slot)) ≡ true)))
+Placing cards x (Ok _) after =
+    Sound x × (cards (x .slot) ≡ None)
+    × Cases (after (x .slot)) ⊥ (MadeOf (x .fill) (x .rate) (x .capacity))
+    × ((k : ℕ) → k ≢ x .slot → after k ≡ cards k)
+Placing cards x (Err e) after =
+    (((e ≡ OutsideLimits) × (Sound x → ⊥)) ⊎ ((e ≡ SlotFilled) × Sound x × (isSome (cards (x .slot)) ≡ true)))
     × (after ≡ cards)
 
 -- each hopper is tried in turn, and its answer kept beside it
 abbrev pub SetUp : Cards Hopper → List Reading → List Attempt → Cards Hopper → Type 0
 SetUp cards [] [] after = after ≡ cards
 SetUp cards [] (a ∷ rest) after = ⊥
-SetUp cards (s ∷ ss) [] after = ⊥
-SetUp cards (s ∷ ss) (a ∷ rest) after = (mid : Cards Hopper) × (a .reading ≡ s) × Placing cards s (a .answer) mid × SetUp mid ss rest after
+SetUp cards (x ∷ xs) [] after = ⊥
+SetUp cards (x ∷ xs) (a ∷ rest) after = (mid : Cards Hopper) × (a .reading ≡ x) × Placing cards x (a .answer) mid × SetUp mid xs rest after

@@ -16,7 +16,8 @@ use family::PricedFamily;
 use std::alloc::AllocError;
 use std::alloc::Global;
 
-// The chart from 0 to 1,000,000; no stretch where no card stands.
+// The chart from 0 to 1,000,000; no stretch where no card stands. An `Err` is want of memory, and tells
+// nothing of the chart.
 pub fn stretches<F: PricedFamily>(heap: Global, family: &F) -> Result<Vec<Stretch>, AllocError>
     ensures { λ r. ⌜ made r (λ v. Chart (F·Family .before (now (family .entry))) (F·Family .slots (now (family .entry))) (F·PricedFamily .amount (now (family .entry))) (vec-items v)) ⌝ }
 {

@@ -89,6 +89,7 @@ fn write_stretch<W: fmt::Write>(f: &mut fmt::Formatter<W>, stretch: &Stretch) ->
     let first = stretch.first;
     let last = stretch.last;
     let slot = stretch.slot;
+    // Wider, since the smallest 64-bit number has no negation there.
     let fill = -i128::from(stretch.amount);
     writeln!(
         f,

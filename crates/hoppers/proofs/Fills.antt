@@ -10,7 +10,7 @@ use mir.Val.{toZ, ofZ}
 use borrow.Author.Differences.{ints}
 use Rattle.std.proofs.shelf.Bits.{mul-le}
 use Rattle.family.specs.Order.{clamp, fact, FewChanges}
-use Rattle.family.specs.Amounts.{Sized, byAmount, Steady, TurnsAt, Turning}
+use Rattle.family.specs.Amounts.{WithinSize, byAmount, Steady, TurnsAt, Turning}
 use Rattle.family.proofs.Steady.{few-if-steady}
 use Rattle.crossing.specs.Line.{line, notNegative}
 use Rattle.crossing.proofs.Lines.{line-on, line-minus, line-steady, le-by-gap}
@@ -24,7 +24,7 @@ gain-size (negsuc b) t h k = omega (arith, ints, mul-le (suc b) t 1000000 100000
 pub fill-size : (h : Hopper) (t : ℕ) → t ≤ 1000000 → natAbs (fillAt h t) ≤ 1001000000000
 fill-size h t k = omega (arith, ints, gain-size (h .rate) t (h .within .3) k)
 
-pub fills-sized : Sized fillAt
+pub fills-sized : WithinSize fillAt
 fills-sized h t = omega (arith, fill-size h (clamp t) (omega arith))
 
 pub fills-steady : (c d : Hopper) (a b : ℕ) → Steady (λ t. fillAt c t -ℤ fillAt d t) a b

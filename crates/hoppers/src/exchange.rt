@@ -62,7 +62,7 @@ fn line_exchange(c: &Hopper, d: &Hopper, from: u32, end: u32) -> Option<u32>
     next_crossing(gap, drift, from, end)
 }
 
-// Any time, as a turning time of two hoppers.
+// Whatever time is passed in is a turning time of two hoppers.
 fn never_turning(c: &Hopper, d: &Hopper, any: u32) -> u32
     requires { ⌜ any ≤ 1000000 ⌝ }
     ensures { λ r. ⌜ TurnsAt fillAt (now (c .entry)) (now (d .entry)) r ⌝ }

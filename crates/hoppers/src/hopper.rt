@@ -1,7 +1,7 @@
 // A hopper. No value of the type lies outside the limits.
 ghost use Rattle.hoppers.specs.Limits.{Limits};
 
-#[derive(Clone, Copy)]
+#[derive(Clone, Copy, PartialEq, Eq, Debug)]
 pub struct Hopper {
     pub(crate) fill: u32,
     pub(crate) rate: i32,

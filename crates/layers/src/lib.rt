@@ -1,5 +1,5 @@
-// Layers: families made of the family below them. A layer keeps the cards of the family below, and is
-// priced where that is; layers pile in any order.
+// Layers: families made of the family below them. A layer keeps the cards of the family below, is priced
+// where that is, and is itself a family that a layer can lie over.
 mod mirror;
 mod negate;
 

@@ -20,10 +20,14 @@ mod slots_kept;
 #[derive(Clone, Copy)]
 struct Line(u32, i32);
 
+fn hopper(line: Line) -> Result<Hopper, Refusal> {
+    Hopper::new(line.0, line.1, 1_000_000_000)
+}
+
 // The family that has the first line in slot 0, the second in slot 1, and nothing else.
 fn pair(c: Line, d: Line) -> Result<Hoppers, Refusal> {
     let mut family = ByAmount(Slots::new());
-    family.put(0, Hopper::new(c.0, c.1, 1_000_000_000)?)?;
-    family.put(1, Hopper::new(d.0, d.1, 1_000_000_000)?)?;
+    family.put(0, hopper(c)?)?;
+    family.put(1, hopper(d)?)?;
     Ok(family)
 }
