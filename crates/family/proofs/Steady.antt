@@ -53,6 +53,7 @@ few-if-steady amount steady c d (t ∷ u ∷ us) (some, at-t, (above, at-u, _)) 
     apart amount c d 0 1000000 (steady c d) t u some above
     (omega arith, omega arith) (omega arith, omega arith) (omega arith, omega arith) (omega arith, omega arith) at-t at-u
 
+-- for card sorts that know a turning time, and for families that are made of a turning family
 pub few-if-turning : {C : Type 0} (amount : Amount C) → Turning amount → FewChanges 2 (byAmount amount)
 few-if-turning amount turning c d [] _ = omega arith
 few-if-turning amount turning c d (t ∷ []) _ = omega arith

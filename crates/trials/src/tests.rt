@@ -15,6 +15,7 @@ mod limits;
 mod mirrors;
 mod runs;
 mod slots_kept;
+mod turnings;
 
 // An opening fill and a rate.
 #[derive(Clone, Copy)]
