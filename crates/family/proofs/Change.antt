@@ -1,8 +1,10 @@
 -- Laws of facts that change with time.
 use mathlib.Core.Path.{_≡_, refl, sym, ap, _∙_}
 use mathlib.Core.Bool.{Bool, true, false, not}
+use mathlib.Core.Logic.{⊎-elim}
 use Prim.Native.Nat.{ℕ, _-_, _≤_, _<_}
 use native.Mathlib.Omega.{arith}
+use Rattle.std.proofs.shelf.Tests.{cases-lt}
 use Rattle.std.specs.declared.option.Option.{Option}
 use Rattle.std.specs.declared.option.Option.the-variants.{None, Some}
 use Rattle.family.specs.Order.{FirstChange}
@@ -22,6 +24,14 @@ changed-to true false y kept e = e
 changed-to false true y kept e = e
 changed-to false false y kept e = kept refl
 
+same-between : (b x y z : Bool) → (x ≡ b → y ≡ b) → (y ≡ b → z ≡ b) → z ≡ x → y ≡ x
+same-between true true y z on _ _ = on refl
+same-between true false true z _ on e = sym (on refl) ∙ e
+same-between true false false z _ _ _ = refl
+same-between false false y z on _ _ = on refl
+same-between false true false z _ on e = sym (on refl) ∙ e
+same-between false true true z _ _ _ = refl
+
 -- and then it changes no more: two changes in one part are one too many
 pub two-changes-clash : {X : Type 0} (In : ℕ → Type 0) (b : Bool) (p : ℕ → Bool) → LastsIn In b p → (t u : ℕ) → 0 < t → t < u
     → In (t - 1) → In t → In (u - 1) → In u → p t ≡ not (p (t - 1)) → p u ≡ not (p (u - 1)) → X
@@ -30,6 +40,12 @@ two-changes-clash In b p lasts t u some above t-before t-in u-before u-in at-t a
     let still = lasts t (u - 1) t-in u-before (omega arith) now-b in
     let later = lasts t u t-in u-in (omega arith) now-b in
     never-opposite b (sym later ∙ at-u ∙ ap not still)
+
+-- a fact that is the same at both ends of a part, and changes one way only there, is the same all through
+pub constant-between : (In : ℕ → Type 0) (b : Bool) (p : ℕ → Bool) → LastsIn In b p → (t u v : ℕ)
+    → In t → In u → In v → t ≤ u → u ≤ v → p v ≡ p t → p u ≡ p t
+constant-between In b p lasts t u v t-in u-in v-in on upto ends =
+    same-between b (p t) (p u) (p v) (lasts t u t-in u-in on) (lasts u v u-in v-in upto) ends
 
 -- what is said of the first change depends on the fact from the start to the end alone
 pub first-change-alike : (p q : ℕ → Bool) (t end : ℕ) (r : Option ℕ) → ((u : ℕ) → t ≤ u → u ≤ end → p u ≡ q u)
@@ -43,3 +59,46 @@ first-change-alike p q t end (Some w) alike (above, upto, differs, same) =
       sym (alike w (omega arith) upto) ∙ differs ∙ ap not start,
       λ v a b. sym (alike v (omega arith) (omega arith)) ∙ same v a b ∙ start,
     )
+
+-- a fact and its opposite change at the same times
+pub first-change-opposite : (p : ℕ → Bool) (t end : ℕ) (r : Option ℕ) → FirstChange p t end r → FirstChange (λ u. not (p u)) t end r
+first-change-opposite p t end None first = λ u above upto. ap not (first u above upto)
+first-change-opposite p t end (Some w) (above, upto, differs, same) = (above, upto, ap not differs, λ v a b. ap not (same v a b))
+
+-- a first change up to a time is that up to any later time
+pub first-change-upto : (p : ℕ → Bool) (t middle end w : ℕ) → middle ≤ end → FirstChange p t middle (Some w) → FirstChange p t end (Some w)
+first-change-upto p t middle end w on (above, upto, differs, same) = (above, omega arith, differs, same)
+
+-- while nothing changes up to a time, the first change from there is that from the start
+pub first-change-from : (p : ℕ → Bool) (t middle end : ℕ) (r : Option ℕ) → t ≤ middle → ((u : ℕ) → t ≤ u → u ≤ middle → p u ≡ p t)
+    → FirstChange p middle end r → FirstChange p t end r
+first-change-from p t middle end None on constant first =
+    λ u above upto.
+    ⊎-elim
+    (λ later. first u later upto ∙ constant middle on (omega arith))
+    (λ sooner. constant u (omega arith) sooner)
+    (cases-lt middle u)
+first-change-from p t middle end (Some w) on constant (above, upto, differs, same) = (
+      omega arith,
+      upto,
+      differs ∙ ap not (constant middle on (omega arith)),
+      λ v a b. ⊎-elim
+      (λ later. same v later b ∙ constant middle on (omega arith))
+      (λ sooner. constant v (omega arith) sooner)
+      (cases-lt middle v),
+    )
+
+-- there is one first change and no other: whoever tells it tells the same
+pub first-change-once : (p : ℕ → Bool) (t end : ℕ) (r s : Option ℕ) → FirstChange p t end r → FirstChange p t end s → r ≡ s
+first-change-once p t end None None _ _ = refl
+first-change-once p t end None (Some w) none (above, upto, differs, _) = never-opposite (p t) (sym (none w above upto) ∙ differs)
+first-change-once p t end (Some w) None (above, upto, differs, _) none = never-opposite (p t) (sym (none w above upto) ∙ differs)
+first-change-once p t end (Some v) (Some w) (v-above, v-upto, v-differs, v-same) (w-above, w-upto, w-differs, w-same) =
+    ⊎-elim
+    (λ sooner. never-opposite (p t) (sym (w-same v v-above sooner) ∙ v-differs))
+    (λ upto.
+    ⊎-elim
+    (λ sooner. never-opposite (p t) (sym (v-same w w-above sooner) ∙ w-differs))
+    (λ on. ap Some (omega arith))
+    (cases-lt w v))
+    (cases-lt v w)

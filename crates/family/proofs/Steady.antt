@@ -4,23 +4,24 @@ use mathlib.Core.Path.{_≡_, sym}
 use mathlib.Core.Bool.{Bool, true, false, not}
 use mathlib.Core.List.{[], _∷_}
 use mathlib.Core.Logic.{⊎-elim}
-use Prim.Native.Nat.{ℕ, _-_, _<_, _≤_}
+use Prim.Native.Nat.{ℕ, zero, suc, _+_, _-_, _<_, _≤_}
 use native.Mathlib.Omega.{arith}
+use native.Mathlib.Nat.{add-zero, add-suc}
 use lib.IntN.{ℤ, _-ℤ_}
 use lib.Signed.{_≤ℤ_}
 use borrow.Author.Differences.{ints}
 use Rattle.std.proofs.shelf.Tests.{cases-lt}
 use Rattle.family.specs.Order.{clamp, fact, FewChanges}
-use Rattle.family.specs.Amounts.{Amount, byAmount, Steady, Turning}
+use Rattle.family.specs.Amounts.{Amount, byAmount, NeverFalls, NeverRises, Steady, Turning}
 use Rattle.family.proofs.Change.{LastsIn, two-changes-clash}
 
 -- a time is read as one from a to b
-abbrev Within : ℕ → ℕ → ℕ → Type 0
+abbrev pub Within : ℕ → ℕ → ℕ → Type 0
 Within a b t = (a ≤ clamp t) × (clamp t ≤ b)
 
 module _ {C : Type 0} (amount : Amount C) (c d : C) where
   -- where the difference is steady, the fact changes one way only
-  lasts : (a b : ℕ) → Steady (λ t. amount c t -ℤ amount d t) a b → (x : Bool) × LastsIn (Within a b) x (fact (byAmount amount) c d)
+  pub lasts : (a b : ℕ) → Steady (λ t. amount c t -ℤ amount d t) a b → (x : Bool) × LastsIn (Within a b) x (fact (byAmount amount) c d)
   lasts a b steady =
       ⊎-elim
       (λ never. (
@@ -45,6 +46,25 @@ module _ {C : Type 0} (amount : Amount C) (c d : C) where
       → fact (byAmount amount) c d t ≡ not (fact (byAmount amount) c d (t - 1))
       → fact (byAmount amount) c d u ≡ not (fact (byAmount amount) c d (u - 1)) → X
   apart a b steady t u = let l = lasts a b steady in two-changes-clash (Within a b) (l .0) _ (l .1) t u
+
+-- what never falls from one time to the next never falls, and so with rising
+rises-on : (g : ℕ → ℤ) (t n : ℕ) → ((k : ℕ) → t ≤ k → k < t + n → g k ≤ℤ g (suc k)) → g t ≤ℤ g (t + n)
+rises-on g t zero _ = rw add-zero (omega (arith, ints))
+rises-on g t (suc n) step = rw add-suc (omega (arith, ints, rises-on g t n (λ k a b. step k a (omega arith)), step (t + n) (omega arith) (omega arith)))
+
+falls-on : (g : ℕ → ℤ) (t n : ℕ) → ((k : ℕ) → t ≤ k → k < t + n → g (suc k) ≤ℤ g k) → g (t + n) ≤ℤ g t
+falls-on g t zero _ = rw add-zero (omega (arith, ints))
+falls-on g t (suc n) step = rw add-suc (omega (arith, ints, falls-on g t n (λ k a b. step k a (omega arith)), step (t + n) (omega arith) (omega arith)))
+
+pub never-falls-by-steps : (g : ℕ → ℤ) (a b : ℕ) → ((k : ℕ) → a ≤ k → k < b → g k ≤ℤ g (suc k)) → NeverFalls g a b
+never-falls-by-steps g a b step t u from on upto =
+    let e : u ≡ t + (u - t) = omega arith in
+    rw e (rises-on g t (u - t) (λ k p q. step k (omega arith) (omega arith)))
+
+pub never-rises-by-steps : (g : ℕ → ℤ) (a b : ℕ) → ((k : ℕ) → a ≤ k → k < b → g (suc k) ≤ℤ g k) → NeverRises g a b
+never-rises-by-steps g a b step t u from on upto =
+    let e : u ≡ t + (u - t) = omega arith in
+    rw e (falls-on g t (u - t) (λ k p q. step k (omega arith) (omega arith)))
 
 pub few-if-steady : {C : Type 0} (amount : Amount C) → ((c d : C) → Steady (λ t. amount c t -ℤ amount d t) 0 1000000) → FewChanges 1 (byAmount amount)
 few-if-steady amount steady c d [] _ = omega arith
