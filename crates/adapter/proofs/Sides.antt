@@ -1,0 +1,55 @@
+-- First changes on the two sides of a turning time.
+use mathlib.Core.Path.{_≡_, sym, _∙_}
+use mathlib.Core.Bool.{Bool, true, false, not}
+use mathlib.Core.Logic.{⊎-elim}
+use Prim.Native.Nat.{ℕ, _+_, _≤_, _<_, min, max}
+use native.Mathlib.Omega.{arith}
+use lib.IntN.{_-ℤ_}
+use Rattle.std.proofs.shelf.Tests.{cases-lt}
+use Rattle.std.specs.declared.option.Option.the-variants.{None, Some}
+use Rattle.family.specs.Order.{lastTime, FirstChange}
+use Rattle.family.specs.Slots.{Cards}
+use Rattle.family.specs.Amounts.{Amount, Steady}
+use Rattle.family.proofs.Change.{constant-between}
+use Rattle.family.proofs.Steady.{lasts}
+use Rattle.adapter.specs.Parts.{noLarger, ChangesOnce}
+
+-- a part of a part
+pub once-within : (p : ℕ → Bool) (a b x y : ℕ) → a ≤ x → y ≤ b → ChangesOnce p a b → ChangesOnce p x y
+once-within p a b x y from upto once = (once .0, λ t u (t-from, t-upto) (u-from, u-upto) on is. once .1 t u (omega arith, omega arith) (omega arith, omega arith) on is)
+
+-- where the two ends are alike, so is all between them
+pub once-alike : (p : ℕ → Bool) (a b : ℕ) → ChangesOnce p a b → p b ≡ p a → (u : ℕ) → a ≤ u → u ≤ b → p u ≡ p a
+once-alike p a b once ends u from upto =
+    constant-between (λ t. (a ≤ t) × (t ≤ b)) (once .0) p (once .1) a u b (omega arith, omega arith) (from, upto) (omega arith, omega arith) from upto ends
+
+-- a time that still is as the start, next to one that is not: that one is the first
+pub first-next-to : (p : ℕ → Bool) (a b w : ℕ) → ChangesOnce p a b → a ≤ w → w + 1 ≤ b → p w ≡ p a → p (w + 1) ≡ not (p a) → FirstChange p a b (Some (w + 1))
+first-next-to p a b w once from upto same differs = (
+      omega arith,
+      upto,
+      differs,
+      λ v above below. once-alike p a w (once-within p a b a w (omega arith) (omega arith) once) same v (omega arith) (omega arith),
+    )
+
+-- alike at the start, at the turning time as far as it lies between, and at the end: there is no change
+pub none-on-both-sides : (p : ℕ → Bool) (m from middle end : ℕ) → ChangesOnce p 0 m → ChangesOnce p m lastTime → from < end → end ≤ lastTime
+    → middle ≡ min (max m from) end → p middle ≡ p from → p end ≡ p from → FirstChange p from end None
+none-on-both-sides p m from middle end before after some upto is first second = λ u above below.
+    ⊎-elim
+    (λ late. ⊎-elim
+      (λ after-m. once-alike p middle end (once-within p m lastTime middle end (omega arith) upto after) (second ∙ sym first) u (omega arith) below ∙ first)
+      (λ before-m. once-alike p from middle (once-within p 0 m from middle (omega arith) (omega arith) before) first u (omega arith) (omega arith))
+      (cases-lt m u))
+    (λ soon. once-alike p from end (once-within p m lastTime from end soon upto after) second u (omega arith) below)
+    (cases-lt from m)
+
+-- where the difference of two cards is steady, the order of the slots that hold them changes once
+pub once-by-turning : {C : Type 0} (amount : Amount C) (cards : Cards C) (i j : ℕ) (c d : C) (a b : ℕ) → cards i ≡ Some c → cards j ≡ Some d
+    → b ≤ lastTime → Steady (λ t. amount c t -ℤ amount d t) a b → ChangesOnce (noLarger amount cards i j) a b
+once-by-turning amount cards i j c d a b at-i at-j upto steady =
+    let l = lasts amount c d a b steady in
+    rw (at-i, at-j) (
+      l .0,
+      λ t u (t-from, t-upto) (u-from, u-upto) on is. l .1 t u (omega arith, omega arith) (omega arith, omega arith) on is,
+    )
