@@ -4,8 +4,8 @@ ghost use lib.ListN.{length};
 ghost use Rattle.std.specs.declared.option.Option.the-variants.{Some};
 ghost use Rattle.family.specs.Amounts.{CellsHold, RunAnswer};
 use crate::card::PricedCard;
-use family::LAST_TIME;
 use family::Refusal;
+use family::run_in_range;
 
 // Puts the amount at first + k into cell k, or refuses and leaves every cell.
 pub(crate) fn run<C: PricedCard>(
@@ -15,12 +15,7 @@ pub(crate) fn run<C: PricedCard>(
 ) -> Result<(), Refusal>
     ensures { λ r. ⌜ RunAnswer (C·PricedCard .amount) held first (now (cells .entry)) r (now (cells .exit)) ⌝ }
 {
-    if first > LAST_TIME {
-        return Err(Refusal::PastEnd);
-    }
-    if cells.len() > (LAST_TIME + 1 - first) as usize {
-        return Err(Refusal::PastEnd);
-    }
+    run_in_range(first, cells)?;
     let Some(card) = held else {
         return Err(Refusal::SlotEmpty);
     };

@@ -43,6 +43,11 @@ amountOf amount h t = mapped (λ c. amount c (clamp t)) h
 abbrev pub InRange : ℕ → List ℤ → Type 0
 InRange first cells = (first ≤ lastTime) × (first + length cells ≤ lastTime + 1)
 
+-- whether it does, or is refused for it
+abbrev pub RangeAnswer : ℕ → List ℤ → Result Unit Refusal → Type 0
+RangeAnswer first cells (Ok _) = InRange first cells
+RangeAnswer first cells (Err e) = (e ≡ PastEnd) × (InRange first cells → ⊥)
+
 -- each cell k holds the amount of a slot's holding at first + k
 abbrev pub CellsHold : {C : Type 0} → Amount C → Option C → ℕ → List ℤ → Type 0
 CellsHold amount h first cells = (k : ℕ) → k < length cells → amountOf amount h (first + k) ≡ Some (getD cells k (pos 0))

@@ -28,11 +28,13 @@ ghost use Rattle.family.specs.Slots.{Cards, slotBefore, PutAnswer, LiftAnswer}
 ghost use Rattle.family.specs.Amounts.{Amount, WithinSize, OrderedBy, amountOf, RunAnswer, TurnsAt, Turning};
 
 mod refusal;
+mod run;
 
 pub use refusal::Refusal;
 pub use refusal::RefusalDebug;
 pub use refusal::RefusalEq;
 pub use refusal::RefusalPartialEq;
+pub use run::run_in_range;
 
 // The last time.
 pub const LAST_TIME: u32 = 1_000_000;

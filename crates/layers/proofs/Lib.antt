@@ -1,1 +1,3 @@
 mod Turning
+mod Delay
+mod PastEnd
