@@ -13,4 +13,6 @@ pub use mirror::Mirror;
 pub use mirror::MirrorFamily;
 pub use mirror::MirrorPriced;
 pub use pile::LateMirrorLate;
+pub use pile::amount_in_pile;
 pub use pile::compare_in_pile;
+pub use pile::exchange_in_pile;
