@@ -3,7 +3,7 @@
 use mathlib.Core.Path.{_≡_, sym}
 use mathlib.Core.Bool.{Bool, true, false, not}
 use mathlib.Core.List.{[], _∷_}
-use mathlib.Core.Logic.{⊎-elim}
+use mathlib.Core.Logic.{inl, ⊎-elim}
 use Prim.Native.Nat.{ℕ, zero, suc, _+_, _-_, _<_, _≤_}
 use native.Mathlib.Omega.{arith}
 use native.Mathlib.Nat.{add-zero, add-suc}
@@ -65,6 +65,10 @@ pub never-rises-by-steps : (g : ℕ → ℤ) (a b : ℕ) → ((k : ℕ) → a �
 never-rises-by-steps g a b step t u from on upto =
     let e : u ≡ t + (u - t) = omega arith in
     rw e (falls-on g t (u - t) (λ k p q. step k (omega arith) (omega arith)))
+
+-- at one time alone everything is steady
+pub steady-point : (g : ℕ → ℤ) (a : ℕ) → Steady g a a
+steady-point g a = inl (never-falls-by-steps g a a (λ k from upto. absurd (omega arith)))
 
 pub few-if-steady : {C : Type 0} (amount : Amount C) → ((c d : C) → Steady (λ t. amount c t -ℤ amount d t) 0 1000000) → FewChanges 1 (byAmount amount)
 few-if-steady amount steady c d [] _ = omega arith
