@@ -1,8 +1,8 @@
 -- Laws of facts that change with time.
 use mathlib.Core.Path.{_≡_, refl, sym, ap, _∙_}
 use mathlib.Core.Bool.{Bool, true, false, not}
-use mathlib.Core.Logic.{⊎-elim}
-use Prim.Native.Nat.{ℕ, _-_, _≤_, _<_}
+use mathlib.Core.Logic.{_⊎_, inl, inr, ⊎-elim}
+use Prim.Native.Nat.{ℕ, zero, suc, _-_, _≤_, _<_}
 use native.Mathlib.Omega.{arith}
 use Rattle.std.proofs.shelf.Tests.{cases-lt}
 use Rattle.std.specs.declared.option.Option.{Option}
@@ -102,3 +102,25 @@ first-change-once p t end (Some v) (Some w) (v-above, v-upto, v-differs, v-same)
     (λ on. ap Some (omega arith))
     (cases-lt w v))
     (cases-lt v w)
+
+-- and there always is one, or none is told for sure
+same-or-opposite : (x y : Bool) → (x ≡ y) ⊎ (x ≡ not y)
+same-or-opposite true true = inl refl
+same-or-opposite true false = inr refl
+same-or-opposite false true = inr refl
+same-or-opposite false false = inl refl
+
+one-time-more : (p : ℕ → Bool) (t n : ℕ) (r : Option ℕ) → FirstChange p t n r → (s : Option ℕ) × FirstChange p t (suc n) s
+one-time-more p t n (Some w) first = (Some w, first-change-upto p t n (suc n) w (omega arith) first)
+one-time-more p t n None same =
+    ⊎-elim
+    (λ level. (None, λ u above upto. ⊎-elim (λ early. same u above (omega arith)) (λ late. let e : u ≡ suc n = omega arith in rw e level) (cases-lt u (suc n))))
+    (λ differs. ⊎-elim
+      (λ later. (Some (suc n), (later, omega arith, differs, λ v above below. same v above (omega arith))))
+      (λ past. (None, λ u above upto. absurd (omega arith)))
+      (cases-lt t (suc n)))
+    (same-or-opposite (p (suc n)) (p t))
+
+pub first-change-exists : (p : ℕ → Bool) (t end : ℕ) → (r : Option ℕ) × FirstChange p t end r
+first-change-exists p t zero = (None, λ u above upto. absurd (omega arith))
+first-change-exists p t (suc n) = let so-far = first-change-exists p t n in one-time-more p t n (so-far .0) (so-far .1)

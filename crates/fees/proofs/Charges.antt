@@ -15,7 +15,7 @@ use Rattle.std.specs.declared.option.Option.{Option}
 use Rattle.std.specs.declared.option.Option.the-variants.{None, Some}
 use Rattle.family.specs.Order.{lastTime, FewChanges, FirstChange}
 use Rattle.family.specs.Amounts.{byAmount, TurnsAt, Turning}
-use Rattle.family.proofs.Change.{first-change-alike}
+use Rattle.family.proofs.Change.{first-change-alike, first-change-exists}
 use Rattle.family.proofs.Steady.{steady-point, few-if-turning}
 use Rattle.crossing.specs.Line.{notNegative}
 use Rattle.fees.specs.Charge.{charge, chargeAt, CappedFrom}
@@ -31,25 +31,47 @@ charge-course c m (upto, under, over) = record {
       most = λ t. omega (arith, mul-suc (c .rate) t)
     }
 
--- every card has such a time: it is looked for up to n
-abbrev CappedBy : FeeCard → ℕ → ℕ → Type 0
-CappedBy c n m = (m ≤ n) × ((t : ℕ) → t < m → c .opening + c .rate * t < c .cap) × ((t : ℕ) → m ≤ t → t < n → c .cap ≤ c .opening + c .rate * t)
+-- whether the gap to the cap is closed tells whether the cap holds
+module _ (c : FeeCard) where
+  abbrev closed : ℕ → Bool
+  closed t = notNegative (pos (c .opening) -ℤ pos (c .cap)) (pos (c .rate)) t
 
-capped-within : (c : FeeCard) (n : ℕ) → (m : ℕ) × CappedBy c n m
-capped-within c zero = (0, (omega arith, λ t h. absurd (omega arith), λ t a b. absurd (omega arith)))
-capped-within c (suc n) =
+  holds : (t : ℕ) → closed t ≡ true → c .cap ≤ c .opening + c .rate * t
+  holds t e = omega (arith, ints)
+
+  fails : (t : ℕ) → closed t ≡ false → c .opening + c .rate * t < c .cap
+  fails t e = omega (arith, ints)
+
+  at-start : c .opening < c .cap → closed 0 ≡ false
+  at-start under = grind (arith, ints)
+
+  -- it is open up to u where it does not change before
+  all-under : c .opening < c .cap → (u : ℕ) → ((v : ℕ) → 0 < v → v < u → closed v ≡ closed 0) → (t : ℕ) → t < u → c .opening + c .rate * t < c .cap
+  all-under under u same zero _ = fails 0 (at-start under)
+  all-under under u same (suc t) h = fails (suc t) (same (suc t) (omega arith) h ∙ at-start under)
+
+  first-closed : c .opening < c .cap → (r : Option ℕ) → FirstChange closed 0 lastTime r → CappedFrom c (valueOr r lastTime)
+  first-closed under (Some u) (above, upto, differs, same) = (
+        upto,
+        all-under under u same,
+        λ t late _. omega (arith, holds u (differs ∙ ap not (at-start under)), mul-le u (c .rate) t (c .rate) late (omega arith), mul-comm (c .rate) u, mul-comm (c .rate) t),
+      )
+  first-closed under None same = (omega arith, all-under under lastTime (λ v a b. same v a (omega arith)), λ t a b. absurd (omega arith))
+
+  -- as the crossing is told, of numbers that are the gap and the rate
+  pub first-capped : (gap drift : ℤ) (r : Option ℕ) → gap ≡ pos (c .opening) -ℤ pos (c .cap) → drift ≡ pos (c .rate) → gap <ℤ pos 0
+      → FirstChange (λ v. notNegative gap drift (v - 0)) 0 lastTime r → (m : ℕ) → m ≡ valueOr r lastTime → CappedFrom c m
+  first-capped gap drift r gap-is drift-is under first m is =
+      rw is (first-closed (omega (arith, ints)) r
+      (first-change-alike _ closed 0 lastTime r (λ v _ _. let e : v - 0 ≡ v = omega arith in cc) first))
+
+-- so every card has a time from which its cap holds
+capped-somewhere : (c : FeeCard) → (m : ℕ) × CappedFrom c m
+capped-somewhere c =
     ⊎-elim
-    (λ under. (suc n, (
-      omega arith,
-      λ t h. omega (arith, mul-le t (c .rate) n (c .rate) (omega arith) (omega arith), mul-comm (c .rate) t, mul-comm (c .rate) n),
-      λ t a b. absurd (omega arith),
-    )))
-    (λ held. let so-far = capped-within c n in (so-far .0, (
-      omega (arith, so-far .1 .0),
-      so-far .1 .1,
-      λ t a b. ⊎-elim (λ early. so-far .1 .2 t a early) (λ late. let e : t ≡ n = omega arith in rw e held) (cases-lt t n),
-    )))
-    (cases-lt (c .opening + c .rate * n) (c .cap))
+    (λ under. let first = first-change-exists (closed c) 0 lastTime in (valueOr (first .0) lastTime, first-closed c under (first .0) (first .1)))
+    (λ over. (0, (omega arith, λ t early. absurd (omega arith), λ t _ _. omega arith)))
+    (cases-lt (c .opening) (c .cap))
 
 -- the turning time of two cards: at the first cap, or one before it
 module _ (c d : FeeCard) (i j : ℕ) (ci : CappedFrom c i) (dj : CappedFrom d j) where
@@ -111,43 +133,9 @@ module _ (c d : FeeCard) (i j : ℕ) (ci : CappedFrom c i) (dj : CappedFrom d j)
 
 pub charges-turn : Turning chargeAt
 charges-turn c d =
-    let i = capped-within c 1000000 in
-    let j = capped-within d 1000000 in
+    let i = capped-somewhere c in
+    let j = capped-somewhere d in
     turn-by-first-cap c d (i .0) (j .0) (i .1) (j .1) (min (i .0) (j .0)) refl
 
 pub charges-few : FewChanges 2 (byAmount chargeAt)
 charges-few = few-if-turning chargeAt charges-turn
-
--- whether the gap to the cap is closed tells whether the cap holds
-module _ (c : FeeCard) where
-  abbrev closed : ℕ → Bool
-  closed t = notNegative (pos (c .opening) -ℤ pos (c .cap)) (pos (c .rate)) t
-
-  holds : (t : ℕ) → closed t ≡ true → c .cap ≤ c .opening + c .rate * t
-  holds t e = omega (arith, ints)
-
-  fails : (t : ℕ) → closed t ≡ false → c .opening + c .rate * t < c .cap
-  fails t e = omega (arith, ints)
-
-  at-start : c .opening < c .cap → closed 0 ≡ false
-  at-start under = grind (arith, ints)
-
-  -- it is open up to u where it does not change before
-  all-under : c .opening < c .cap → (u : ℕ) → ((v : ℕ) → 0 < v → v < u → closed v ≡ closed 0) → (t : ℕ) → t < u → c .opening + c .rate * t < c .cap
-  all-under under u same zero _ = fails 0 (at-start under)
-  all-under under u same (suc t) h = fails (suc t) (same (suc t) (omega arith) h ∙ at-start under)
-
-  first-closed : c .opening < c .cap → (r : Option ℕ) → FirstChange closed 0 lastTime r → CappedFrom c (valueOr r lastTime)
-  first-closed under (Some u) (above, upto, differs, same) = (
-        upto,
-        all-under under u same,
-        λ t late _. omega (arith, holds u (differs ∙ ap not (at-start under)), mul-le u (c .rate) t (c .rate) late (omega arith), mul-comm (c .rate) u, mul-comm (c .rate) t),
-      )
-  first-closed under None same = (omega arith, all-under under lastTime (λ v a b. same v a (omega arith)), λ t a b. absurd (omega arith))
-
-  -- as the crossing is told, of numbers that are the gap and the rate
-  pub first-capped : (gap drift : ℤ) (r : Option ℕ) → gap ≡ pos (c .opening) -ℤ pos (c .cap) → drift ≡ pos (c .rate) → gap <ℤ pos 0
-      → FirstChange (λ v. notNegative gap drift (v - 0)) 0 lastTime r → (m : ℕ) → m ≡ valueOr r lastTime → CappedFrom c m
-  first-capped gap drift r gap-is drift-is under first m is =
-      rw is (first-closed (omega (arith, ints)) r
-      (first-change-alike _ closed 0 lastTime r (λ v _ _. let e : v - 0 ≡ v = omega arith in cc) first))
