@@ -1,2 +1,4 @@
 mod Signs
+pub mod Ring
 pub mod Lines
+pub mod Kept

@@ -1,15 +1,15 @@
 -- Laws of straight lines.
 use mathlib.Core.Path.{_≡_, ap, _∙_}
 use mathlib.Core.Logic.{inl, inr}
-use Prim.Native.Nat.{ℕ, _+_, _-_, _*_, _≤_}
+use Prim.Native.Nat.{ℕ, _+_, _-_, _≤_}
 use native.Mathlib.Omega.{arith}
-use native.Mathlib.Nat.{mul-add, add-mul}
 use lib.IntN.{ℤ, pos, negsuc, _+ℤ_, _-ℤ_, _*ℤ_}
 use lib.Signed.{leZ, _≤ℤ_}
-use borrow.Author.Differences.{ints, up, down}
+use borrow.Author.Differences.{ints}
 use Rattle.std.proofs.shelf.Signed.{by-ltZ}
 use Rattle.family.specs.Amounts.{Steady}
 use Rattle.crossing.specs.Line.{line}
+use Rattle.crossing.proofs.Ring.{times-sum, minus-times}
 
 -- a product by a number that is not negative has the sign of the other factor
 times-rises : (k : ℤ) (n : ℕ) → pos 0 ≤ℤ k → pos 0 ≤ℤ (k *ℤ pos n)
@@ -20,21 +20,13 @@ times-falls : (k : ℤ) (n : ℕ) → k ≤ℤ pos 0 → (k *ℤ pos n) ≤ℤ p
 times-falls (pos a) n h = let z : a ≡ 0 = omega (arith, ints) in rw z (omega (arith, ints))
 times-falls (negsuc a) n _ = omega (arith, ints)
 
-times-apart : (k : ℤ) (t w : ℕ) → k *ℤ pos (t + w) ≡ k *ℤ pos t +ℤ k *ℤ pos w
-times-apart k t w = omega (arith, ints, mul-add (up k) t w, mul-add (down k) t w)
-
-times-minus : (k l : ℤ) (t : ℕ) → (k -ℤ l) *ℤ pos t ≡ k *ℤ pos t -ℤ l *ℤ pos t
-times-minus k l t =
-    let e : up (k -ℤ l) + (down k + up l) ≡ down (k -ℤ l) + (up k + down l) = omega (arith, ints) in
-    omega (arith, ints, ap (λ n. n * t) e, add-mul (up (k -ℤ l)) (down k + up l) t, add-mul (down k) (up l) t, add-mul (down (k -ℤ l)) (up k + down l) t, add-mul (up k) (down l) t)
-
 -- the line after t is a line again
 pub line-on : (gap drift : ℤ) (t w : ℕ) → line gap drift (t + w) ≡ line (line gap drift t) drift w
-line-on gap drift t w = omega (arith, ints, times-apart drift t w)
+line-on gap drift t w = omega (arith, ints, times-sum drift (pos t) (pos w))
 
 -- the difference of two lines is a line
 pub line-minus : (g k h l : ℤ) (t : ℕ) → line g k t -ℤ line h l t ≡ line (g -ℤ h) (k -ℤ l) t
-line-minus g k h l t = omega (arith, ints, times-minus k l t)
+line-minus g k h l t = omega (arith, ints, minus-times k l (pos t))
 
 -- a line never falls or never rises
 ahead : (g k : ℤ) (t u : ℕ) → t ≤ u → line g k u ≡ line g k t +ℤ k *ℤ pos (u - t)

@@ -9,6 +9,7 @@ use crate::hopper::Hopper;
 use cards::ExchangingCard;
 use cards::PricedCard;
 use cards::TurningCard;
+use crossing::line_at;
 use crossing::next_crossing;
 use family::LAST_TIME;
 
@@ -46,7 +47,7 @@ impl Hopper {
         ensures value { λ r. ⌜ r ≡ fillAt (now (self .entry)) minutes ⌝ }
         ensures bound { λ r. ⌜ natAbs r ≤ 1001000000000 ⌝ }
     {
-        i64::from(self.fill) + i64::from(self.rate) * i64::from(minutes)
+        line_at(self.fill as i32, self.rate, minutes)
     }
 }
 

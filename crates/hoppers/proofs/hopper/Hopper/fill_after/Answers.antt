@@ -1,40 +1,19 @@
-use mathlib.Core.Path.{_≡_}
+use mathlib.Core.Path.{_≡_, _∙_}
 use native.Mathlib.Omega.{arith}
-use borrow.Author.Differences.{ints}
-use lib.IntN.{pos, _*ℤ_, _+ℤ_}
-use mir.Syntax.{w64}
+use lib.IntN.{pos}
+use mir.Syntax.{w32, w64}
 use mir.Val.{SFits, toZ, ofZ}
-use Rattle.std.proofs.shelf.Signed.{toZ-ofZ}
+use borrow.Author.Differences.{ints}
+use Rattle.crossing.proofs.Kept.{kept}
 use Rattle.hoppers.specs.Fill.{fillAt}
-use Rattle.hoppers.proofs.Fills.{gain-size, fill-size}
+use Rattle.hoppers.proofs.Fills.{fill-size}
 use Rattle.hoppers.proofs.hopper.Hopper.fill_after.Needs as need
 
-module _ (c : need.After-from-3) where
-  gain-is : toZ w64 (ofZ w64 (c .from-2 .result)) *ℤ toZ w64 (ofZ w64 (c .from-3 .result)) ≡ c .args .self .now .rate *ℤ pos (c .args .minutes)
-  gain-is =
-      let rate-is : toZ w64 (ofZ w64 (c .from-2 .result)) ≡ c .args .self .now .rate = omega (arith, ints) in
-      let time-is : toZ w64 (ofZ w64 (c .from-3 .result)) ≡ pos (c .args .minutes) = omega (arith, ints) in
-      rw (rate-is, time-is)
-
-  gain-fits : SFits w64 (c .args .self .now .rate *ℤ pos (c .args .minutes))
-  gain-fits = omega (arith, ints, gain-size (c .args .self .now .rate) (c .args .minutes) (c .args .self .now .within .3) (c .pre))
-
-  sum-is : toZ w64 (ofZ w64 (c .from .result)) +ℤ toZ w64 (ofZ w64 (toZ w64 (ofZ w64 (c .from-2 .result)) *ℤ toZ w64 (ofZ w64 (c .from-3 .result)))) ≡ fillAt (c .args .self .now) (c .args .minutes)
-  sum-is =
-      let fill-is : toZ w64 (ofZ w64 (c .from .result)) ≡ pos (c .args .self .now .fill) = omega (arith, ints) in
-      rw (fill-is, gain-is, toZ-ofZ w64 _ gain-fits)
-
-  sum-fits : SFits w64 (fillAt (c .args .self .now) (c .args .minutes))
-  sum-fits = omega (arith, ints, fill-size (c .args .self .now) (c .args .minutes) (c .pre))
-
-  kept : toZ w64 (ofZ w64 (toZ w64 (ofZ w64 (c .from .result)) +ℤ toZ w64 (ofZ w64 (toZ w64 (ofZ w64 (c .from-2 .result)) *ℤ toZ w64 (ofZ w64 (c .from-3 .result)))))) ≡ fillAt (c .args .self .now) (c .args .minutes)
-  kept = rw sum-is (toZ-ofZ w64 _ sum-fits)
-
-pub mul-result : need.mul-result
-mul-result c = rw (gain-is c) (gain-fits c)
-
-pub add-result : need.add-result
-add-result c = rw (sum-is c) (sum-fits c)
-
 pub returns : need.returns
-returns c = record { value = kept c; bound = rw (kept c) (fill-size (c .args .self .now) (c .args .minutes) (c .pre)) }
+returns c =
+    let h = c .args .self .now in
+    let small = fill-size h (c .args .minutes) (c .pre) in
+    let fill-is : toZ w32 (h .fill) ≡ pos (h .fill) = omega (arith, ints) in
+    let rate-is : toZ w32 (ofZ w32 (h .rate)) ≡ h .rate = omega (arith, ints) in
+    let is : toZ w64 (ofZ w64 (c .line-at .result)) ≡ fillAt h (c .args .minutes) = kept (c .line-at .result) (fillAt h (c .args .minutes)) (cc (c .line-at .ensures)) (omega (arith, ints)) in
+    record { value = is; bound = rw is small }

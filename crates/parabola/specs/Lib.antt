@@ -1,0 +1,5 @@
+pub mod Limits
+pub mod Height
+pub mod Reach
+pub mod Slope
+pub mod Steps

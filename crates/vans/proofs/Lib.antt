@@ -1,0 +1,2 @@
+mod Inner
+mod Distances
