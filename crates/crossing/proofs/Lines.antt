@@ -1,15 +1,15 @@
 -- Laws of straight lines.
 use mathlib.Core.Path.{_≡_, ap, _∙_}
 use mathlib.Core.Logic.{inl, inr}
-use Prim.Native.Nat.{ℕ, _+_, _-_, _≤_}
+use Prim.Native.Nat.{ℕ, _+_, _-_, _*_, _≤_}
 use native.Mathlib.Omega.{arith}
-use lib.IntN.{ℤ, pos, negsuc, _+ℤ_, _-ℤ_, _*ℤ_}
+use lib.IntN.{ℤ, pos, negsuc, natAbs, _+ℤ_, _-ℤ_, _*ℤ_}
 use lib.Signed.{leZ, _≤ℤ_}
 use borrow.Author.Differences.{ints}
 use Rattle.std.proofs.shelf.Signed.{by-ltZ}
 use Rattle.family.specs.Amounts.{Steady}
 use Rattle.crossing.specs.Line.{line}
-use Rattle.crossing.proofs.Ring.{times-sum, minus-times}
+use Rattle.crossing.proofs.Ring.{times-sum, minus-times, times-size}
 
 -- a product by a number that is not negative has the sign of the other factor
 times-rises : (k : ℤ) (n : ℕ) → pos 0 ≤ℤ k → pos 0 ≤ℤ (k *ℤ pos n)
@@ -41,3 +41,7 @@ line-steady g k a b =
 -- "x is at most y" is "y less x is not negative"
 pub le-by-gap : (x y : ℤ) → leZ x y ≡ leZ (pos 0) (y -ℤ x)
 le-by-gap x y = grind (arith, ints)
+
+-- how large a line gets
+pub line-size : (g k : ℤ) (t m n u : ℕ) → natAbs g ≤ m → natAbs k ≤ n → t ≤ u → natAbs (line g k t) ≤ m + n * u
+line-size g k t m n u near slow upto = omega (arith, ints, times-size k (pos t) n u slow upto)

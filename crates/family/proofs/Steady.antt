@@ -3,7 +3,7 @@
 use mathlib.Core.Path.{_≡_, sym}
 use mathlib.Core.Bool.{Bool, true, false, not}
 use mathlib.Core.List.{[], _∷_}
-use mathlib.Core.Logic.{inl, ⊎-elim}
+use mathlib.Core.Logic.{inl, inr, ⊎-elim}
 use Prim.Native.Nat.{ℕ, zero, suc, _+_, _-_, _<_, _≤_}
 use native.Mathlib.Omega.{arith}
 use native.Mathlib.Nat.{add-zero, add-suc}
@@ -65,6 +65,13 @@ pub never-rises-by-steps : (g : ℕ → ℤ) (a b : ℕ) → ((k : ℕ) → a �
 never-rises-by-steps g a b step t u from on upto =
     let e : u ≡ t + (u - t) = omega arith in
     rw e (falls-on g t (u - t) (λ k p q. step k (omega arith) (omega arith)))
+
+-- what is steady stays so under another name
+pub steady-alike : (g h : ℕ → ℤ) (a b : ℕ) → ((t : ℕ) → g t ≡ h t) → Steady g a b → Steady h a b
+steady-alike g h a b same =
+    ⊎-elim
+    (λ never. inl (λ t u p q r. omega (arith, ints, never t u p q r, same t, same u)))
+    (λ never. inr (λ t u p q r. omega (arith, ints, never t u p q r, same t, same u)))
 
 -- at one time alone everything is steady
 pub steady-point : (g : ℕ → ℤ) (a : ℕ) → Steady g a a

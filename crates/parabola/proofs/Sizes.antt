@@ -10,14 +10,12 @@ use Rattle.crossing.specs.Line.{line}
 use Rattle.parabola.specs.declared.curve.Parabola.{Parabola}
 use Rattle.parabola.specs.Slope.{halfSlope, discriminantOf}
 use Rattle.crossing.proofs.Ring.{times-size}
+use Rattle.crossing.proofs.Lines.{line-size}
 use Rattle.crossing.proofs.Kept.{small-fits, kept, fits-by, product-kept, gain-fits, line-fits, line-kept}
 
--- a line up to the last time
-line-size : (y step : ℤ) (w m n : ℕ) → natAbs y ≤ m → natAbs step ≤ n → w ≤ 1000000 → natAbs (line y step w) ≤ m + n * 1000000
-line-size y step w m n near slow upto = omega (arith, ints, times-size step (pos w) n 1000000 slow upto)
-
+-- half the slope up to the last time
 pub slope-size : (p : Parabola) (t : ℕ) → t ≤ 1000000 → natAbs (halfSlope p t) ≤ 4001000000000
-slope-size p t upto = line-size (p .tilt) (p .bend) t 1000000000 4000000 (p .within .1) (p .within .2) upto
+slope-size p t upto = line-size (p .tilt) (p .bend) t 1000000000 4000000 1000000 (p .within .1) (p .within .2) upto
 
 -- y + step × w, as it is computed
 module _ (a b x y step : ℤ) (w : ℕ) (p : a ≡ y) (q : b ≡ step) (r : x ≡ pos w) (near : natAbs y ≤ 5000000000000) (slow : natAbs step ≤ 2000000000) (upto : w ≤ 1000000) where
@@ -25,7 +23,7 @@ module _ (a b x y step : ℤ) (w : ℕ) (p : a ≡ y) (q : b ≡ step) (r : x �
   gain-small = small-fits _ (omega (arith, times-size step (pos w) 2000000000 1000000 slow upto))
 
   line-small : SFits w64 (line y step w)
-  line-small = small-fits _ (omega (arith, line-size y step w 5000000000000 2000000000 near slow upto))
+  line-small = small-fits _ (omega (arith, line-size y step w 5000000000000 2000000000 1000000 near slow upto))
 
   pub slope-gain-fits : SFits w64 (toZ w64 (ofZ w64 b) *ℤ toZ w64 (ofZ w64 x))
   slope-gain-fits = gain-fits a b x y step w p q r (small-fits y (omega arith)) (small-fits step (omega arith)) (small-fits (pos w) (omega arith)) gain-small line-small

@@ -1,17 +1,15 @@
 -- Squared distances: how large they are, and by what two of them differ.
 use mathlib.Core.Path.{_≡_, refl, sym, ap, _∙_}
-use mathlib.Core.Logic.{inl, inr, ⊎-elim}
 use Prim.Native.Nat.{ℕ, _≤_}
 use native.Mathlib.Omega.{arith}
 use lib.IntN.{ℤ, pos, natAbs, _-ℤ_, _*ℤ_}
 use lib.Signed.{leZ}
-use borrow.Author.Differences.{ints}
 use Rattle.family.specs.Order.{lastTime, clamp, fact, FewChanges}
-use Rattle.family.specs.Amounts.{WithinSize, byAmount, Steady, Turning}
-use Rattle.family.proofs.Steady.{few-if-turning}
+use Rattle.family.specs.Amounts.{WithinSize, byAmount, Turning}
+use Rattle.family.proofs.Steady.{steady-alike, few-if-turning}
 use Rattle.crossing.specs.Line.{line}
-use Rattle.crossing.proofs.Ring.{times-size, square-of-line}
-use Rattle.crossing.proofs.Lines.{le-by-gap}
+use Rattle.crossing.proofs.Ring.{square-of-line}
+use Rattle.crossing.proofs.Lines.{line-size, le-by-gap}
 use Rattle.parabola.specs.Height.{height}
 use Rattle.parabola.proofs.Heights.{height-sum, height-difference}
 use Rattle.parabola.proofs.Turns.{height-turns}
@@ -22,7 +20,7 @@ use Rattle.vans.proofs.Inner.{inner-size}
 
 -- a coordinate up to the last time
 pub coordinate-size : (p v : ℤ) (t : ℕ) → natAbs p ≤ 100000 → natAbs v ≤ 1000 → t ≤ 1000000 → natAbs (line p v t) ≤ 1000100000
-coordinate-size p v t near slow upto = omega (arith, ints, times-size v (pos t) 1000 1000000 slow upto)
+coordinate-size p v t near slow upto = line-size p v t 100000 1000 1000000 near slow upto
 
 pub distance-size : (v : Van) (t : ℕ) → t ≤ 1000000 → natAbs (distanceAt v t) ≤ 2000400020000000000
 distance-size v t upto =
@@ -48,13 +46,6 @@ distance-is v t =
     let x = square-of-line (v .px) (v .vx) t in
     let y = square-of-line (v .py) (v .vy) t in
     let both = height-sum (square (v .px)) (v .px *ℤ v .vx) (square (v .vx)) (square (v .py)) (v .py *ℤ v .vy) (square (v .vy)) t in cc
-
--- what is steady stays so under another name
-pub steady-alike : (g h : ℕ → ℤ) (a b : ℕ) → ((t : ℕ) → g t ≡ h t) → Steady g a b → Steady h a b
-steady-alike g h a b same =
-    ⊎-elim
-    (λ never. inl (λ t u p q r. omega (arith, ints, never t u p q r, same t, same u)))
-    (λ never. inr (λ t u p q r. omega (arith, ints, never t u p q r, same t, same u)))
 
 -- and so is the difference of two
 pub gap-is : (c d : Van) (start tilt bend : ℤ) → start ≡ startOf d -ℤ startOf c → tilt ≡ tiltOf d -ℤ tiltOf c → bend ≡ bendOf d -ℤ bendOf c

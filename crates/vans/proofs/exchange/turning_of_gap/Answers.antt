@@ -1,6 +1,6 @@
 use Rattle.family.specs.Order.{lastTime}
+use Rattle.family.proofs.Steady.{steady-alike}
 use Rattle.parabola.specs.Height.{heightOf}
-use Rattle.vans.proofs.Distances.{steady-alike}
 use Rattle.vans.proofs.exchange.turning_of_gap.Needs as need
 
 pub returns : need.returns
