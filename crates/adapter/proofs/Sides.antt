@@ -1,5 +1,5 @@
 -- First changes on the two sides of a turning time.
-use mathlib.Core.Path.{_≡_, sym, _∙_}
+use mathlib.Core.Path.{_≡_, sym, ap, _∙_}
 use mathlib.Core.Bool.{Bool, true, false, not}
 use mathlib.Core.Logic.{⊎-elim}
 use Prim.Native.Nat.{ℕ, _+_, _≤_, _<_, min, max}
@@ -24,12 +24,13 @@ once-alike p a b once ends u from upto =
     constant-between (λ t. (a ≤ t) × (t ≤ b)) (once .0) p (once .1) a u b (omega arith, omega arith) (from, upto) (omega arith, omega arith) from upto ends
 
 -- a time that still is as the start, next to one that is not: that one is the first
-pub first-next-to : (p : ℕ → Bool) (a b w : ℕ) → ChangesOnce p a b → a ≤ w → w + 1 ≤ b → p w ≡ p a → p (w + 1) ≡ not (p a) → FirstChange p a b (Some (w + 1))
-first-next-to p a b w once from upto same differs = (
+pub first-next-to : (p : ℕ → Bool) (held : Bool) (a b w u : ℕ) → ChangesOnce p a b → p a ≡ held → a ≤ w → u ≡ w + 1 → u ≤ b → p w ≡ held → p u ≡ not held
+    → FirstChange p a b (Some u)
+first-next-to p held a b w u once start from next upto same differs = (
       omega arith,
       upto,
-      differs,
-      λ v above below. once-alike p a w (once-within p a b a w (omega arith) (omega arith) once) same v (omega arith) (omega arith),
+      differs ∙ ap not (sym start),
+      λ v above below. once-alike p a w (once-within p a b a w (omega arith) (omega arith) once) (same ∙ sym start) v (omega arith) (omega arith),
     )
 
 -- alike at the start, at the turning time as far as it lies between, and at the end: there is no change

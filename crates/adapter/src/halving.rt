@@ -1,4 +1,4 @@
-// Exchanges found by halving.
+// Exchanges found by halving each side of the turning time.
 ghost use Prim.Native.Nat.{_≤_, _<_};
 ghost use mathlib.Core.Path.{_≡_};
 ghost use mathlib.Core.Bool.{not};

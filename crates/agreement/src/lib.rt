@@ -4,16 +4,17 @@
 ghost use mathlib.Core.Path.{_≡_};
 ghost use Rattle.family.specs.Order.{NextChange};
 ghost use Rattle.family.specs.Slots.{slotBefore};
-ghost use Rattle.family.specs.Amounts.{byAmount};
+ghost use Rattle.family.specs.Amounts.{OrderedBy, byAmount};
 ghost use Rattle.slots.specs.Held.{cardsOf};
 ghost use Rattle.hoppers.specs.Fill.{fillAt};
 ghost use Rattle.vans.specs.Distance.{distanceAt};
-mod both_ways;
 
 use adapter::Adapter;
-use both_ways::exchange_both_ways;
+use adapter::AdapterFamily;
 use cards::ByAmountFamily;
 use cards::ByAmountTurning;
+use family::Family;
+use family::TurningFamily;
 use hoppers::HopperExchanging;
 use hoppers::HopperTurning;
 use hoppers::Hoppers;
@@ -52,4 +53,24 @@ pub fn van_exchange(
     ensures agree { λ r. ⌜ (cardsOf (now (formula .entry) .0) i ≡ cardsOf (now (bisection .entry) .0 .0) i → cardsOf (now (formula .entry) .0) j ≡ cardsOf (now (bisection .entry) .0 .0) j → r .0 ≡ r .1) ⌝ }
 {
     exchange_both_ways(formula, bisection, i, j, t, end)
+}
+
+// The next exchange of two slots as a family tells it, and as the adapter of a turning family does. Where
+// the turning family's amounts give the family's order and both hold the same cards in the two slots, the
+// answers are the same: the first change of a fact is one time and no other.
+fn exchange_both_ways<C: Copy, F: Family<Card = C>, T: TurningFamily<Card = C>>(
+    family: &F,
+    adapter: &Adapter<T>,
+    i: u8,
+    j: u8,
+    t: u32,
+    end: u32,
+) -> (Option<u32>, Option<u32>)
+    ensures first { λ r. ⌜ NextChange (slotBefore (F·Family .before (now (family .entry))) (F·Family .slots (now (family .entry))) i j) t end (r .0) ⌝ }
+    ensures second { λ r. ⌜ NextChange (slotBefore (byAmount (T·TurningFamily .amount (now (adapter .entry) .0))) (T·TurningFamily .slots (now (adapter .entry) .0)) i j) t end (r .1) ⌝ }
+    ensures agree { λ r. ⌜ (OrderedBy (F·Family .before (now (family .entry))) (T·TurningFamily .amount (now (adapter .entry) .0)) → F·Family .slots (now (family .entry)) i ≡ T·TurningFamily .slots (now (adapter .entry) .0) i → F·Family .slots (now (family .entry)) j ≡ T·TurningFamily .slots (now (adapter .entry) .0) j → r .0 ≡ r .1) ⌝ }
+{
+    let first = family.next_exchange(i, j, t, end);
+    let second = adapter.next_exchange(i, j, t, end);
+    (first, second)
 }

@@ -1,21 +1,36 @@
-// When two vans trade places.
+// A van's squared distance at a time, and when two vans trade places.
 //
 // A van at p with velocity v has at time t the squared distance p·p + 2 (p·v) t + (v·v) t², so the distances
 // of two vans differ by a parabola.
 ghost use Prim.Native.Nat.{ℕ, _≤_};
-ghost use lib.IntN.{natAbs, _-ℤ_};
+ghost use lib.IntN.{natAbs, _+ℤ_, _-ℤ_, _*ℤ_};
 ghost use mathlib.Core.Path.{_≡_};
 ghost use Rattle.family.specs.Order.{fact, NextChange};
 ghost use Rattle.family.specs.Amounts.{byAmount, TurnsAt};
 ghost use Rattle.parabola.specs.Height.{heightOf};
 ghost use Rattle.vans.specs.Distance.{distanceAt};
 ghost use Rattle.vans.specs.Spread.{startOf, tiltOf, bendOf};
-use crate::distance::VanPriced;
-use crate::distance::inner;
 use crate::van::Van;
 use cards::ExchangingCard;
+use cards::PricedCard;
 use cards::TurningCard;
+use crossing::line_at;
+use family::LAST_TIME;
 use parabola::Parabola;
+
+pub impl PricedCard for Van as VanPriced {
+    ghost amount = { distanceAt };
+
+    ghost swaps = { 2 };
+
+    fn amount_at(&self, t: u32) -> i64 {
+        self.distance_after(t.min(LAST_TIME))
+    }
+
+    fn bound() -> u8 {
+        2
+    }
+}
 
 pub impl ExchangingCard for Van as VanExchanging {
     fn next_exchange(&self, other: &Van, t: u32, end: u32) -> Option<u32> {
@@ -55,6 +70,16 @@ fn gap(c: &Van, d: &Van) -> Parabola
 }
 
 impl Van {
+    // The squared distance after some minutes, at most 1,000,000.
+    fn distance_after(&self, minutes: u32) -> i64
+        requires { ⌜ minutes ≤ 1000000 ⌝ }
+        ensures { λ r. ⌜ r ≡ distanceAt (now (self .entry)) minutes ⌝ }
+    {
+        let x = line_at(self.px, i32::from(self.vx), minutes);
+        let y = line_at(self.py, i32::from(self.vy), minutes);
+        inner(x, y, x, y)
+    }
+
     // The squared distance at opening.
     fn start(&self) -> i64
         ensures value { λ r. ⌜ r ≡ startOf (now (self .entry)) ⌝ }
@@ -85,4 +110,15 @@ impl Van {
         let (x, y) = (i64::from(self.vx), i64::from(self.vy));
         inner(x, y, x, y)
     }
+}
+
+// The inner product of two vectors, of which no coordinate is larger than a van's can be.
+fn inner(ax: i64, ay: i64, bx: i64, by: i64) -> i64
+    requires ax { ⌜ natAbs ax ≤ 1000100000 ⌝ }
+    requires ay { ⌜ natAbs ay ≤ 1000100000 ⌝ }
+    requires bx { ⌜ natAbs bx ≤ 1000100000 ⌝ }
+    requires by { ⌜ natAbs by ≤ 1000100000 ⌝ }
+    ensures { λ r. ⌜ r ≡ ax *ℤ bx +ℤ ay *ℤ by ⌝ }
+{
+    ax * bx + ay * by
 }

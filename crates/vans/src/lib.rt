@@ -2,14 +2,13 @@
 //
 // The difference of two squared distances is a parabola over time, so two vans trade places at most twice,
 // and when they do is told by a formula. Vans are a turning family too.
-mod distance;
 mod exchange;
 mod make;
 mod van;
 
 use cards::ByAmount;
-pub use distance::VanPriced;
 pub use exchange::VanExchanging;
+pub use exchange::VanPriced;
 pub use exchange::VanTurning;
 use slots::Slots;
 pub use van::Van;

@@ -1,5 +1,5 @@
 use Rattle.vans.proofs.Inner.{product-fits, inner-fits, inner-kept}
-use Rattle.vans.proofs.distance.inner.Needs as need
+use Rattle.vans.proofs.exchange.inner.Needs as need
 
 pub mul-result : need.mul-result
 mul-result c = product-fits (c .args .ax) (c .args .bx) (c .pre .ax) (c .pre .bx)

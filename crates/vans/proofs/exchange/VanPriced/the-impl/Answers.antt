@@ -1,5 +1,5 @@
 use Rattle.vans.proofs.Distances.{distances-sized, distances-few, distances-turn}
-use Rattle.vans.proofs.distance.VanPriced.the-impl.Needs as need
+use Rattle.vans.proofs.exchange.VanPriced.the-impl.Needs as need
 
 pub sized-law : need.sized-law
 sized-law = distances-sized

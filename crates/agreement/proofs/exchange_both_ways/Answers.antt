@@ -1,5 +1,5 @@
 use Rattle.agreement.proofs.OneAnswer.{one-answer}
-use Rattle.agreement.proofs.both_ways.exchange_both_ways.Needs as need
+use Rattle.agreement.proofs.exchange_both_ways.Needs as need
 
 pub returns : need.returns
 returns g c =
