@@ -25,34 +25,34 @@ use vans::Vans;
 
 // The next exchange of two slots of hoppers, by formula and by bisection.
 pub fn hopper_exchange(
-    formula: &Hoppers,
-    bisection: &Adapter<Hoppers>,
+    hoppers: &Hoppers,
+    adapted: &Adapter<Hoppers>,
     i: u8,
     j: u8,
     t: u32,
     end: u32,
 ) -> (Option<u32>, Option<u32>)
-    ensures formula { λ r. ⌜ NextChange (slotBefore (byAmount fillAt) (cardsOf (now (formula .entry) .0)) i j) t end (r .0) ⌝ }
-    ensures bisection { λ r. ⌜ NextChange (slotBefore (byAmount fillAt) (cardsOf (now (bisection .entry) .0 .0)) i j) t end (r .1) ⌝ }
-    ensures agree { λ r. ⌜ (cardsOf (now (formula .entry) .0) i ≡ cardsOf (now (bisection .entry) .0 .0) i → cardsOf (now (formula .entry) .0) j ≡ cardsOf (now (bisection .entry) .0 .0) j → r .0 ≡ r .1) ⌝ }
+    ensures formula { λ r. ⌜ NextChange (slotBefore (byAmount fillAt) (cardsOf (now (hoppers .entry) .0)) i j) t end (r .0) ⌝ }
+    ensures bisection { λ r. ⌜ NextChange (slotBefore (byAmount fillAt) (cardsOf (now (adapted .entry) .0 .0)) i j) t end (r .1) ⌝ }
+    ensures agree { λ r. ⌜ (cardsOf (now (hoppers .entry) .0) i ≡ cardsOf (now (adapted .entry) .0 .0) i → cardsOf (now (hoppers .entry) .0) j ≡ cardsOf (now (adapted .entry) .0 .0) j → r .0 ≡ r .1) ⌝ }
 {
-    exchange_both_ways(formula, bisection, i, j, t, end)
+    exchange_both_ways(hoppers, adapted, i, j, t, end)
 }
 
 // The next exchange of two slots of vans, by formula and by bisection.
 pub fn van_exchange(
-    formula: &Vans,
-    bisection: &Adapter<Vans>,
+    vans: &Vans,
+    adapted: &Adapter<Vans>,
     i: u8,
     j: u8,
     t: u32,
     end: u32,
 ) -> (Option<u32>, Option<u32>)
-    ensures formula { λ r. ⌜ NextChange (slotBefore (byAmount distanceAt) (cardsOf (now (formula .entry) .0)) i j) t end (r .0) ⌝ }
-    ensures bisection { λ r. ⌜ NextChange (slotBefore (byAmount distanceAt) (cardsOf (now (bisection .entry) .0 .0)) i j) t end (r .1) ⌝ }
-    ensures agree { λ r. ⌜ (cardsOf (now (formula .entry) .0) i ≡ cardsOf (now (bisection .entry) .0 .0) i → cardsOf (now (formula .entry) .0) j ≡ cardsOf (now (bisection .entry) .0 .0) j → r .0 ≡ r .1) ⌝ }
+    ensures formula { λ r. ⌜ NextChange (slotBefore (byAmount distanceAt) (cardsOf (now (vans .entry) .0)) i j) t end (r .0) ⌝ }
+    ensures bisection { λ r. ⌜ NextChange (slotBefore (byAmount distanceAt) (cardsOf (now (adapted .entry) .0 .0)) i j) t end (r .1) ⌝ }
+    ensures agree { λ r. ⌜ (cardsOf (now (vans .entry) .0) i ≡ cardsOf (now (adapted .entry) .0 .0) i → cardsOf (now (vans .entry) .0) j ≡ cardsOf (now (adapted .entry) .0 .0) j → r .0 ≡ r .1) ⌝ }
 {
-    exchange_both_ways(formula, bisection, i, j, t, end)
+    exchange_both_ways(vans, adapted, i, j, t, end)
 }
 
 // The next exchange of two slots as a family tells it, and as the adapter of a turning family does. Where
