@@ -1,12 +1,10 @@
 -- First changes on the two sides of a turning time.
 use mathlib.Core.Path.{_≡_, sym, ap, _∙_}
 use mathlib.Core.Bool.{Bool, true, false, not}
-use mathlib.Core.Logic.{⊎-elim}
-use Prim.Native.Nat.{ℕ, _+_, _≤_, _<_, min, max}
+use Prim.Native.Nat.{ℕ, _+_, _≤_, _<_}
 use native.Mathlib.Omega.{arith}
 use lib.IntN.{_-ℤ_}
-use Rattle.std.proofs.shelf.Tests.{cases-lt}
-use Rattle.std.specs.declared.option.Option.the-variants.{None, Some}
+use Rattle.std.specs.declared.option.Option.the-variants.{Some}
 use Rattle.family.specs.Order.{lastTime, FirstChange}
 use Rattle.family.specs.Slots.{Cards}
 use Rattle.family.specs.Amounts.{Amount, Steady}
@@ -27,23 +25,11 @@ once-alike p a b once ends u from upto =
 pub first-next-to : (p : ℕ → Bool) (held : Bool) (a b w u : ℕ) → ChangesOnce p a b → p a ≡ held → a ≤ w → u ≡ w + 1 → u ≤ b → p w ≡ held → p u ≡ not held
     → FirstChange p a b (Some u)
 first-next-to p held a b w u once start from next upto same differs = (
-      omega arith,
-      upto,
-      differs ∙ ap not (sym start),
-      λ v above below. once-alike p a w (once-within p a b a w (omega arith) (omega arith) once) (same ∙ sym start) v (omega arith) (omega arith),
-    )
-
--- alike at the start, at the turning time as far as it lies between, and at the end: there is no change
-pub none-on-both-sides : (p : ℕ → Bool) (m from middle end : ℕ) → ChangesOnce p 0 m → ChangesOnce p m lastTime → from < end → end ≤ lastTime
-    → middle ≡ min (max m from) end → p middle ≡ p from → p end ≡ p from → FirstChange p from end None
-none-on-both-sides p m from middle end before after some upto is first second = λ u above below.
-    ⊎-elim
-    (λ late. ⊎-elim
-      (λ after-m. once-alike p middle end (once-within p m lastTime middle end (omega arith) upto after) (second ∙ sym first) u (omega arith) below ∙ first)
-      (λ before-m. once-alike p from middle (once-within p 0 m from middle (omega arith) (omega arith) before) first u (omega arith) (omega arith))
-      (cases-lt m u))
-    (λ soon. once-alike p from end (once-within p m lastTime from end soon upto after) second u (omega arith) below)
-    (cases-lt from m)
+  omega arith,
+  upto,
+  differs ∙ ap not (sym start),
+  λ v above below. once-alike p a w (once-within p a b a w (omega arith) (omega arith) once) (same ∙ sym start) v (omega arith) (omega arith),
+)
 
 -- where the difference of two cards is steady, the order of the slots that hold them changes once
 pub once-by-turning : {C : Type 0} (amount : Amount C) (cards : Cards C) (i j : ℕ) (c d : C) (a b : ℕ) → cards i ≡ Some c → cards j ≡ Some d

@@ -36,8 +36,7 @@ pub(crate) fn exchange_by_halving<T: TurningFamily>(
 }
 
 // The first change from a time to an end, of a fact that changes at most once up to the turning time and at
-// most once from there on: the side before the turning time is searched if the fact differs at its end, and
-// otherwise the side after it.
+// most once from there on: that of the side before the turning time, or else that of the side after it.
 fn on_both_sides<T: TurningFamily>(
     below: &T,
     i: u8,
@@ -55,15 +54,25 @@ fn on_both_sides<T: TurningFamily>(
     if end <= from {
         return None;
     }
-    let held = at_or_before(below, i, j, from);
     let middle = turning.max(from).min(end);
-    if at_or_before(below, i, j, middle) != held {
-        return Some(halve(below, i, j, from, middle, held));
+    if let Some(u) = on_one_side(below, i, j, from, middle) {
+        return Some(u);
     }
-    if at_or_before(below, i, j, end) != held {
-        return Some(halve(below, i, j, middle, end, held));
+    on_one_side(below, i, j, middle, end)
+}
+
+// The first change from a time to an end between which the fact changes at most once: there is none where it is
+// the same at both.
+fn on_one_side<T: TurningFamily>(below: &T, i: u8, j: u8, from: u32, end: u32) -> Option<u32>
+    requires forth { ⌜ from ≤ end ⌝ }
+    requires once { ⌜ ChangesOnce (noLarger (T·TurningFamily .amount (now below)) (T·TurningFamily .slots (now below)) i j) from end ⌝ }
+    ensures { λ r. ⌜ FirstChange (noLarger (T·TurningFamily .amount (now (below .entry))) (T·TurningFamily .slots (now (below .entry))) i j) from end r ⌝ }
+{
+    let held = at_or_before(below, i, j, from);
+    if at_or_before(below, i, j, end) == held {
+        return None;
     }
-    None
+    Some(halve(below, i, j, from, end, held))
 }
 
 // The first time after `low`, up to `high`, at which the fact is not what it is at `low`, where it differs at

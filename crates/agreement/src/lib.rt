@@ -8,7 +8,6 @@ ghost use Rattle.family.specs.Amounts.{OrderedBy, byAmount};
 ghost use Rattle.slots.specs.Held.{cardsOf};
 ghost use Rattle.hoppers.specs.Fill.{fillAt};
 ghost use Rattle.vans.specs.Distance.{distanceAt};
-
 use adapter::Adapter;
 use adapter::AdapterFamily;
 use cards::ByAmountFamily;

@@ -70,22 +70,24 @@ pub first-change-upto : (p : ℕ → Bool) (t middle end w : ℕ) → middle ≤
 first-change-upto p t middle end w on (above, upto, differs, same) = (above, omega arith, differs, same)
 
 -- while nothing changes up to a time, the first change from there is that from the start
-pub first-change-from : (p : ℕ → Bool) (t middle end : ℕ) (r : Option ℕ) → t ≤ middle → ((u : ℕ) → t ≤ u → u ≤ middle → p u ≡ p t)
+unchanged-upto : (p : ℕ → Bool) (t middle : ℕ) → FirstChange p t middle None → (u : ℕ) → t ≤ u → u ≤ middle → p u ≡ p t
+unchanged-upto p t middle none u from upto =
+    ⊎-elim (λ later. none u later upto) (λ level. ap p (omega arith)) (cases-lt t u)
+
+pub first-change-from : (p : ℕ → Bool) (t middle end : ℕ) (r : Option ℕ) → t ≤ middle → FirstChange p t middle None
     → FirstChange p middle end r → FirstChange p t end r
-first-change-from p t middle end None on constant first =
+first-change-from p t middle end None on none first =
     λ u above upto.
     ⊎-elim
-    (λ later. first u later upto ∙ constant middle on (omega arith))
-    (λ sooner. constant u (omega arith) sooner)
+    (λ later. first u later upto ∙ unchanged-upto p t middle none middle on (omega arith))
+    (λ sooner. none u above sooner)
     (cases-lt middle u)
-first-change-from p t middle end (Some w) on constant (above, upto, differs, same) = (
+first-change-from p t middle end (Some w) on none (above, upto, differs, same) =
+    let there = unchanged-upto p t middle none middle on (omega arith) in (
       omega arith,
       upto,
-      differs ∙ ap not (constant middle on (omega arith)),
-      λ v a b. ⊎-elim
-      (λ later. same v later b ∙ constant middle on (omega arith))
-      (λ sooner. constant v (omega arith) sooner)
-      (cases-lt middle v),
+      differs ∙ ap not there,
+      λ v a b. ⊎-elim (λ later. same v later b ∙ there) (λ sooner. none v a sooner) (cases-lt middle v),
     )
 
 -- there is one first change and no other: whoever tells it tells the same
@@ -116,9 +118,9 @@ one-time-more p t n None same =
     ⊎-elim
     (λ level. (None, λ u above upto. ⊎-elim (λ early. same u above (omega arith)) (λ late. let e : u ≡ suc n = omega arith in rw e level) (cases-lt u (suc n))))
     (λ differs. ⊎-elim
-      (λ later. (Some (suc n), (later, omega arith, differs, λ v above below. same v above (omega arith))))
-      (λ past. (None, λ u above upto. absurd (omega arith)))
-      (cases-lt t (suc n)))
+    (λ later. (Some (suc n), (later, omega arith, differs, λ v above below. same v above (omega arith))))
+    (λ past. (None, λ u above upto. absurd (omega arith)))
+    (cases-lt t (suc n)))
     (same-or-opposite (p (suc n)) (p t))
 
 pub first-change-exists : (p : ℕ → Bool) (t end : ℕ) → (r : Option ℕ) × FirstChange p t end r

@@ -25,11 +25,11 @@ use Rattle.fees.proofs.Courses.{Course, from-first-cap, to-first-cap, until-be
 -- below the cap a card charges by its rate
 pub charge-course : (c : FeeCard) (m : ℕ) → CappedFrom c m → Course (charge c) (c .rate) m
 charge-course c m (upto, under, over) = record {
-      full = λ t soon. omega (arith, mul-suc (c .rate) t, under (suc t) soon);
-      still = λ t late within. omega (arith, mul-suc (c .rate) t, over t late within);
-      up = λ t. omega (arith, mul-suc (c .rate) t);
-      most = λ t. omega (arith, mul-suc (c .rate) t)
-    }
+  full = λ t soon. omega (arith, mul-suc (c .rate) t, under (suc t) soon);
+  still = λ t late within. omega (arith, mul-suc (c .rate) t, over t late within);
+  up = λ t. omega (arith, mul-suc (c .rate) t);
+  most = λ t. omega (arith, mul-suc (c .rate) t);
+}
 
 -- whether the gap to the cap is closed tells whether the cap holds
 module _ (c : FeeCard) where
@@ -52,10 +52,10 @@ module _ (c : FeeCard) where
 
   first-closed : c .opening < c .cap → (r : Option ℕ) → FirstChange closed 0 lastTime r → CappedFrom c (valueOr r lastTime)
   first-closed under (Some u) (above, upto, differs, same) = (
-        upto,
-        all-under under u same,
-        λ t late _. omega (arith, holds u (differs ∙ ap not (at-start under)), mul-le u (c .rate) t (c .rate) late (omega arith), mul-comm (c .rate) u, mul-comm (c .rate) t),
-      )
+    upto,
+    all-under under u same,
+    λ t late _. omega (arith, holds u (differs ∙ ap not (at-start under)), mul-le u (c .rate) t (c .rate) late (omega arith), mul-comm (c .rate) u, mul-comm (c .rate) t),
+  )
   first-closed under None same = (omega arith, all-under under lastTime (λ v a b. same v a (omega arith)), λ t a b. absurd (omega arith))
 
   -- as the crossing is told, of numbers that are the gap and the rate
@@ -89,42 +89,42 @@ module _ (c d : FeeCard) (i j : ℕ) (ci : CappedFrom c i) (dj : CappedFrom d j)
     pub turns-at-cap : (c .rate < d .rate → charge c n + charge d m ≤ charge c m + charge d n)
         → (d .rate < c .rate → charge c m + charge d n ≤ charge c n + charge d m) → TurnsAt chargeAt c d n
     turns-at-cap slow fast = rw next (
-          omega (arith, ci .0),
-          to-first-cap (charge c) (charge d) (c .rate) (d .rate) i j (charge-course c i ci) (charge-course d j dj) m (sym next ∙ is)
-              (λ slower. omega (arith, slow slower, c-next, d-next)) (λ faster. omega (arith, fast faster, c-next, d-next)),
-          from-first-cap (charge c) (charge d) (c .rate) (d .rate) i j (charge-course c i ci) (charge-course d j dj) (suc m) (sym next ∙ is),
-        )
+      omega (arith, ci .0),
+      to-first-cap (charge c) (charge d) (c .rate) (d .rate) i j (charge-course c i ci) (charge-course d j dj) m (sym next ∙ is)
+          (λ slower. omega (arith, slow slower, c-next, d-next)) (λ faster. omega (arith, fast faster, c-next, d-next)),
+      from-first-cap (charge c) (charge d) (c .rate) (d .rate) i j (charge-course c i ci) (charge-course d j dj) (suc m) (sym next ∙ is),
+    )
 
     pub turns-down-before-cap : d .rate < c .rate → charge c n + charge d m ≤ charge c m + charge d n → TurnsAt chargeAt c d m
     turns-down-before-cap faster down = (
-          omega (arith, ci .0),
-          until-before-cap (charge c) (charge d) (c .rate) (d .rate) i j (charge-course c i ci) (charge-course d j dj) m (sym next ∙ is),
-          down-from-before-cap (charge c) (charge d) (c .rate) (d .rate) i j (charge-course c i ci) (charge-course d j dj) m (sym next ∙ is)
-              faster (omega (arith, c-next, d-next)),
-        )
+      omega (arith, ci .0),
+      until-before-cap (charge c) (charge d) (c .rate) (d .rate) i j (charge-course c i ci) (charge-course d j dj) m (sym next ∙ is),
+      down-from-before-cap (charge c) (charge d) (c .rate) (d .rate) i j (charge-course c i ci) (charge-course d j dj) m (sym next ∙ is)
+          faster (omega (arith, c-next, d-next)),
+    )
 
     pub turns-up-before-cap : c .rate < d .rate → charge c m + charge d n ≤ charge c n + charge d m → TurnsAt chargeAt c d m
     turns-up-before-cap slower up = (
-          omega (arith, ci .0),
-          until-before-cap (charge c) (charge d) (c .rate) (d .rate) i j (charge-course c i ci) (charge-course d j dj) m (sym next ∙ is),
-          up-from-before-cap (charge c) (charge d) (c .rate) (d .rate) i j (charge-course c i ci) (charge-course d j dj) m (sym next ∙ is)
-              slower (omega (arith, c-next, d-next)),
-        )
+      omega (arith, ci .0),
+      until-before-cap (charge c) (charge d) (c .rate) (d .rate) i j (charge-course c i ci) (charge-course d j dj) m (sym next ∙ is),
+      up-from-before-cap (charge c) (charge d) (c .rate) (d .rate) i j (charge-course c i ci) (charge-course d j dj) m (sym next ∙ is)
+          slower (omega (arith, c-next, d-next)),
+    )
 
     some-turn : (k : ℕ) × TurnsAt chargeAt c d k
     some-turn =
         ⊎-elim
         (λ slower. ⊎-elim
-          (λ up. (m, turns-up-before-cap slower (omega arith)))
-          (λ on. (n, turns-at-cap (λ _. on) (λ h. absurd (omega arith))))
-          (cases-lt (charge c m + charge d n) (charge c n + charge d m)))
+        (λ up. (m, turns-up-before-cap slower (omega arith)))
+        (λ on. (n, turns-at-cap (λ _. on) (λ h. absurd (omega arith))))
+        (cases-lt (charge c m + charge d n) (charge c n + charge d m)))
         (λ upto. ⊎-elim
-          (λ down. ⊎-elim
-            (λ faster. (m, turns-down-before-cap faster (omega arith)))
-            (λ level. (n, turns-at-cap (λ h. absurd (omega arith)) (λ h. absurd (omega arith))))
-            (cases-lt (d .rate) (c .rate)))
-          (λ on. (n, turns-at-cap (λ h. absurd (omega arith)) (λ _. on)))
-          (cases-lt (charge c n + charge d m) (charge c m + charge d n)))
+        (λ down. ⊎-elim
+        (λ faster. (m, turns-down-before-cap faster (omega arith)))
+        (λ level. (n, turns-at-cap (λ h. absurd (omega arith)) (λ h. absurd (omega arith))))
+        (cases-lt (d .rate) (c .rate)))
+        (λ on. (n, turns-at-cap (λ h. absurd (omega arith)) (λ _. on)))
+        (cases-lt (charge c n + charge d m) (charge c m + charge d n)))
         (cases-lt (c .rate) (d .rate))
 
   turn-by-first-cap : (n : ℕ) → n ≡ min i j → (m : ℕ) × TurnsAt chargeAt c d m

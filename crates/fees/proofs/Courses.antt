@@ -54,12 +54,12 @@ module _ (x y : ℕ → ℕ) (b e i j : ℕ) (cx : Course x b i) (cy : Course y 
         ⊎-elim
         (λ slower. inr (falling (omega arith) (slow slower)))
         (λ upto. ⊎-elim
-          (λ faster. inl (rising (omega arith) (fast faster)))
-          (λ on. ⊎-elim
-            (λ down. inr (falling (omega arith) (omega arith)))
-            (λ level. inl (rising (omega arith) level))
-            (cases-lt (x (suc m) + y m) (x m + y (suc m))))
-          (cases-lt e b))
+        (λ faster. inl (rising (omega arith) (fast faster)))
+        (λ on. ⊎-elim
+        (λ down. inr (falling (omega arith) (omega arith)))
+        (λ level. inl (rising (omega arith) level))
+        (cases-lt (x (suc m) + y m) (x m + y (suc m))))
+        (cases-lt e b))
         (cases-lt b e)
       where
         falling : b ≤ e → x (suc m) + y m ≤ x m + y (suc m) → NeverRises gap 0 (suc m)

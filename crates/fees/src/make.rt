@@ -25,11 +25,7 @@ impl FeeCard {
         if cap > HIGHEST_CAP {
             return Err(Refusal::OutsideLimits);
         }
-        Ok(FeeCard {
-            opening,
-            rate,
-            cap,
-        })
+        Ok(FeeCard { opening, rate, cap })
     }
 
     // What it charges for no coin, unless the cap is lower.

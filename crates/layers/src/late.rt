@@ -73,14 +73,7 @@ pub impl<F: Family> Family for LateStart<F> as LateStartFamily {
 }
 
 // The exchange here is that below of the times moved on by the delay, moved back again.
-fn delayed_exchange<F: Family>(
-    below: &F,
-    delay: u32,
-    i: u8,
-    j: u8,
-    t: u32,
-    end: u32,
-) -> Option<u32>
+fn delayed_exchange<F: Family>(below: &F, delay: u32, i: u8, j: u8, t: u32, end: u32) -> Option<u32>
     ensures { λ r. ⌜ NextChange (slotBefore (delayed delay (F·Family .before (now (below .entry)))) (F·Family .slots (now (below .entry))) i j) t end r ⌝ }
 {
     let later = below.next_exchange(i, j, t.saturating_add(delay), end.saturating_add(delay))?;

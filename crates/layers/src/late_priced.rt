@@ -59,7 +59,9 @@ fn write_delayed<F: PricedFamily>(
     ensures len { λ _. ⌜ length (now (cells .exit)) ≡ length (now (cells .entry)) ⌝ }
     ensures holds { λ _. ⌜ CellsHold (F·PricedFamily .amount (now (below .entry))) (F·Family .slots (now (below .entry)) slot) start (now (cells .exit)) ⌝ }
 {
-    let told = cells.len().min((LAST_TIME + 1).saturating_sub(start) as usize);
+    let told = cells
+        .len()
+        .min((LAST_TIME + 1).saturating_sub(start) as usize);
     cells.fill(last);
     if told > 0 {
         below.amounts(slot, start, &mut cells[..told])?;

@@ -9,5 +9,5 @@ returns g c =
       first = c .next-exchange-first .ensures;
       second = c .next-exchange-second .ensures;
       agree = one-answer (g .F·Family .before family) (g .T·TurningFamily .amount below) (g .F·Family .slots family) (g .T·TurningFamily .slots below)
-          (c .args .i) (c .args .j) (c .args .t) (c .args .end) _ _ (c .next-exchange-first .ensures) (c .next-exchange-second .ensures)
+          (c .args .i) (c .args .j) (c .args .t) (c .args .end) _ _ (c .next-exchange-first .ensures) (c .next-exchange-second .ensures);
     }

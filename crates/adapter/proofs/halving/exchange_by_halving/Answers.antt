@@ -15,5 +15,5 @@ on-both-sides-requires g c κs =
       ends = search needs;
       turns = turns .0;
       before = part 0 _ at-i at-j (turns .0) (turns .1);
-      after = part _ _ at-i at-j (omega arith) (turns .2)
+      after = part _ _ at-i at-j (omega arith) (turns .2);
     }

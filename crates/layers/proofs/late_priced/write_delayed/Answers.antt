@@ -27,7 +27,7 @@ returns-in-Continue-amounts g c =
       len = len;
       holds = λ k below. whole-holds (c .fill .last .self) (c .amounts .last .cells) told n (c .args .last) filled as-long (omega arith)
           (λ i. amountOf amount held (c .args .start + i)) (λ i soon. written .3 i (omega arith))
-          (λ i on short. amount-past-end amount held (c .args .start + i) (omega arith) ∙ c .pre) k (omega arith)
+          (λ i on short. amount-past-end amount held (c .args .start + i) (omega arith) ∙ c .pre) k (omega arith);
     }
 
 pub returns-else-told-gt0 : need.returns-else-told-gt0
@@ -40,5 +40,5 @@ returns-else-told-gt0 g c =
       done = search needs;
       len = search needs;
       holds = λ k below. amount-past-end amount held (c .args .start + k) (omega arith) ∙ c .pre
-          ∙ ap Some (sym (ap (λ l. getD l k (pos 0)) filled ∙ getD-replicate n k (c .args .last) (pos 0) (omega arith)))
+          ∙ ap Some (sym (ap (λ l. getD l k (pos 0)) filled ∙ getD-replicate n k (c .args .last) (pos 0) (omega arith)));
     }

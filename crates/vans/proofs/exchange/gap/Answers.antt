@@ -10,13 +10,13 @@ sub-result-3 c =
 
 pub ghost-result : need.ghost-result
 ghost-result c = (
-      (
-        omega (arith, difference-size (c .start .result) (c .start-2 .result) 20000000000 (c .start .ensures .bound) (c .start-2 .ensures .bound) (omega arith)),
-        omega (arith, difference-size (c .tilt .result) (c .tilt-2 .result) 200000000 (c .tilt .ensures .bound) (c .tilt-2 .ensures .bound) (omega arith)),
-        omega (arith, difference-size (c .bend .result) (c .bend-2 .result) 2000000 (c .bend .ensures .bound) (c .bend-2 .ensures .bound) (omega arith)),
-      ),
-      tt,
-    )
+  (
+    omega (arith, difference-size (c .start .result) (c .start-2 .result) 20000000000 (c .start .ensures .bound) (c .start-2 .ensures .bound) (omega arith)),
+    omega (arith, difference-size (c .tilt .result) (c .tilt-2 .result) 200000000 (c .tilt .ensures .bound) (c .tilt-2 .ensures .bound) (omega arith)),
+    omega (arith, difference-size (c .bend .result) (c .bend-2 .result) 2000000 (c .bend .ensures .bound) (c .bend-2 .ensures .bound) (omega arith)),
+  ),
+  tt,
+)
 
 pub returns : need.returns
 returns c =
