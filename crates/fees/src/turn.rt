@@ -3,7 +3,6 @@
 // While neither cap holds, the difference of the charges moves by the difference of the rates. From the time
 // at which the first cap holds, one charge stands still and the other does not fall. The step that reaches
 // the cap is shorter than the rate, so it may go either way: the turning time lies before it or after it.
-ghost use Prim.Native.Nat.{_≤_};
 ghost use Rattle.family.specs.Amounts.{TurnsAt};
 ghost use Rattle.fees.specs.Charge.{chargeAt, CappedFrom};
 use crate::card::FeeCard;

@@ -5,7 +5,7 @@ use mathlib.Core.List.{List, _++_}
 use Prim.Native.Nat.{ℕ, _-_, _≤_, _<_}
 use native.Mathlib.Omega.{arith}
 use lib.IntN.{ℤ, pos}
-use lib.ListN.{length, getD, drop, replicate, length-append, length-drop}
+use lib.ListN.{length, getD, drop, replicate, length-append}
 use Rattle.std.proofs.shelf.Lists.{length-replicate, getD-replicate, getD-append-left, getD-append-right, drop-replicate}
 use Rattle.std.proofs.shelf.Tests.{cases-lt}
 use Rattle.std.specs.Options.{mapped}

@@ -1,6 +1,5 @@
 // Late start: the family below as it is some time later. Its order at t is that below at t + delay, and past
 // the end it stays as at the last time.
-ghost use Prim.Native.Nat.{_+_};
 ghost use mathlib.Core.Path.{_≡_};
 ghost use Rattle.family.specs.Order.{clamp, NextChange};
 ghost use Rattle.family.specs.Slots.{slotBefore};

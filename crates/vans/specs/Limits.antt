@@ -1,5 +1,5 @@
 -- Which vans there are.
-use Prim.Native.Nat.{ℕ, _≤_}
+use Prim.Native.Nat.{_≤_}
 use lib.IntN.{ℤ, natAbs}
 
 -- positions from −100,000 to 100,000 metres, and velocities from −1,000 to 1,000 metres a minute

@@ -1,9 +1,5 @@
-use mathlib.Core.Path.{_≡_, refl}
-use Prim.Native.Nat.{_<_, _^_}
+use mathlib.Core.Path.{refl}
 use native.Mathlib.Omega.{arith}
-use lib.IntN.{pos}
-use mir.Syntax.{w64}
-use mir.Val.{SFits}
 use borrow.Author.Differences.{ints}
 use Rattle.crossing.proofs.Kept.{gain-fits, line-fits, line-kept, small-gain, small-line}
 use Rattle.crossing.proofs.moved.Needs as need

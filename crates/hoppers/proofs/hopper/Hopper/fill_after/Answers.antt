@@ -1,8 +1,8 @@
-use mathlib.Core.Path.{_≡_, _∙_}
+use mathlib.Core.Path.{_≡_}
 use native.Mathlib.Omega.{arith}
 use lib.IntN.{pos}
 use mir.Syntax.{w32, w64}
-use mir.Val.{SFits, toZ, ofZ}
+use mir.Val.{toZ, ofZ}
 use borrow.Author.Differences.{ints}
 use Rattle.crossing.proofs.Kept.{kept}
 use Rattle.hoppers.specs.Fill.{fillAt}
