@@ -1,5 +1,5 @@
 -- Laws of straight lines.
-use mathlib.Core.Path.{_≡_, ap, _∙_}
+use mathlib.Core.Path.{_≡_, sym, ap, _∙_}
 use mathlib.Core.Logic.{inl, inr}
 use Prim.Native.Nat.{ℕ, _+_, _-_, _*_, _≤_}
 use native.Mathlib.Omega.{arith}
@@ -7,7 +7,8 @@ use lib.IntN.{ℤ, pos, negsuc, natAbs, _+ℤ_, _-ℤ_, _*ℤ_}
 use lib.Signed.{leZ, _≤ℤ_}
 use borrow.Author.Differences.{ints}
 use Rattle.std.proofs.shelf.Signed.{by-ltZ}
-use Rattle.family.specs.Amounts.{Steady}
+use Rattle.family.specs.Order.{lastTime, clamp, fact}
+use Rattle.family.specs.Amounts.{Amount, byAmount, Steady}
 use Rattle.crossing.specs.Line.{line}
 use Rattle.crossing.proofs.Ring.{times-sum, minus-times, times-size}
 
@@ -39,8 +40,15 @@ line-steady g k a b =
     (λ above. inl (λ t u _ upto _. omega (arith, ints, ahead g k t u upto, times-rises k (u - t) above)))
 
 -- "x is at most y" is "y less x is not negative"
-pub le-by-gap : (x y : ℤ) → leZ x y ≡ leZ (pos 0) (y -ℤ x)
+le-by-gap : (x y : ℤ) → leZ x y ≡ leZ (pos 0) (y -ℤ x)
 le-by-gap x y = grind (arith, ints)
+
+-- so "c is at or before d" is "what d's amount has above c's is not negative"
+pub order-by-gap : {C : Type 0} (amount : Amount C) (c d : C) (u : ℕ) (g : ℤ) → u ≤ lastTime → g ≡ amount d u -ℤ amount c u
+    → leZ (pos 0) g ≡ fact (byAmount amount) c d u
+order-by-gap amount c d u g upto is =
+    let known : clamp u ≡ u = omega arith in
+    ap (leZ (pos 0)) is ∙ sym (le-by-gap (amount c u) (amount d u)) ∙ ap (byAmount amount c d) (sym known)
 
 -- how large a line gets
 pub line-size : (g k : ℤ) (t m n u : ℕ) → natAbs g ≤ m → natAbs k ≤ n → t ≤ u → natAbs (line g k t) ≤ m + n * u

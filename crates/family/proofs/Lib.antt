@@ -1,2 +1,3 @@
 pub mod Change
+pub mod Holdings
 pub mod Steady

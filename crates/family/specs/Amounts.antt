@@ -73,9 +73,13 @@ NeverRises g a b = (t u : ℕ) → a ≤ t → t ≤ u → u ≤ b → g u ≤�
 abbrev pub Steady : (ℕ → ℤ) → ℕ → ℕ → Type 0
 Steady g a b = NeverFalls g a b ⊎ NeverRises g a b
 
--- m is a turning time of two cards: the difference of their amounts is steady up to m, and again from m on
+-- g is steady up to m, and again from m on
+abbrev pub TurnsBy : (ℕ → ℤ) → ℕ → Type 0
+TurnsBy g m = (m ≤ lastTime) × Steady g 0 m × Steady g m lastTime
+
+-- m is a turning time of two cards: the difference of their amounts turns there
 abbrev pub TurnsAt : {C : Type 0} → Amount C → C → C → ℕ → Type 0
-TurnsAt amount c d m = (m ≤ lastTime) × Steady (λ t. amount c t -ℤ amount d t) 0 m × Steady (λ t. amount c t -ℤ amount d t) m lastTime
+TurnsAt amount c d m = TurnsBy (λ t. amount c t -ℤ amount d t) m
 
 -- any two cards have a turning time
 abbrev pub Turning : {C : Type 0} → Amount C → Type 0

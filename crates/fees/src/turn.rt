@@ -17,7 +17,8 @@ pub impl TurningCard for FeeCard as FeeCardTurning {
     }
 }
 
-// The time at which the first cap holds, or one before it.
+// The time at which the first cap holds, or one before it. By the step to the cap the difference of the charges
+// falls where the first card's charge after it and the second's before it come to less than the others.
 fn turning_time(c: &FeeCard, d: &FeeCard) -> u32
     ensures { λ r. ⌜ TurnsAt chargeAt (now (c .entry)) (now (d .entry)) r ⌝ }
 {
@@ -26,12 +27,12 @@ fn turning_time(c: &FeeCard, d: &FeeCard) -> u32
         return 0;
     }
     let uncapped = capped - 1;
-    let risen = c.charge_for(capped) + d.charge_for(uncapped);
-    let level = c.charge_for(uncapped) + d.charge_for(capped);
-    if c.rate > d.rate && risen < level {
+    let first = c.charge_for(capped) + d.charge_for(uncapped);
+    let second = c.charge_for(uncapped) + d.charge_for(capped);
+    if c.rate > d.rate && first < second {
         return uncapped;
     }
-    if c.rate < d.rate && risen > level {
+    if c.rate < d.rate && first > second {
         return uncapped;
     }
     capped

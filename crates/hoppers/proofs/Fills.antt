@@ -1,14 +1,13 @@
 -- The fills of hoppers as straight lines: how large they are, and how two of them differ.
-use mathlib.Core.Path.{_≡_, sym, ap, _∙_}
+use mathlib.Core.Path.{_≡_, sym}
 use Prim.Native.Nat.{ℕ, _+_, _-_, _≤_}
 use native.Mathlib.Omega.{arith}
 use lib.IntN.{ℤ, pos, natAbs, _-ℤ_}
-use lib.Signed.{leZ}
 use Rattle.family.specs.Order.{clamp, fact, FewChanges}
 use Rattle.family.specs.Amounts.{WithinSize, byAmount, Steady, TurnsAt, Turning}
 use Rattle.family.proofs.Steady.{steady-alike, few-if-steady}
 use Rattle.crossing.specs.Line.{line, notNegative}
-use Rattle.crossing.proofs.Lines.{line-on, line-minus, line-steady, line-size, le-by-gap}
+use Rattle.crossing.proofs.Lines.{line-on, line-minus, line-steady, line-size, order-by-gap}
 use Rattle.hoppers.specs.Fill.{fillAt}
 use Rattle.hoppers.specs.declared.hopper.Hopper.{Hopper}
 
@@ -43,6 +42,5 @@ gap-tells c d gap drift t u g k after upto =
     let at-u = line-minus (pos (d .fill)) (d .rate) (pos (c .fill)) (c .rate) u in
     let on = line-on (pos (d .fill) -ℤ pos (c .fill)) (d .rate -ℤ c .rate) t (u - t) in
     let there : t + (u - t) ≡ u = omega arith in
-    let known : clamp u ≡ u = omega arith in
     let gap-is : line gap drift (u - t) ≡ fillAt d u -ℤ fillAt c u = cc in
-    ap (leZ (pos 0)) gap-is ∙ sym (le-by-gap (fillAt c u) (fillAt d u)) ∙ ap (byAmount fillAt c d) (sym known)
+    order-by-gap fillAt c d u (line gap drift (u - t)) upto gap-is

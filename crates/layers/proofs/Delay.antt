@@ -11,6 +11,7 @@ use Rattle.std.specs.declared.option.Option.{Option}
 use Rattle.std.specs.declared.option.Option.the-variants.{None, Some}
 use Rattle.family.specs.Order.{Order, clamp, fact, Changes, FewChanges, FirstChange}
 use Rattle.family.specs.Slots.{holdingBefore}
+use Rattle.family.proofs.Holdings.{holdings-alike}
 use Rattle.layers.specs.Mirrored.{turned}
 use Rattle.layers.specs.Delayed.{delayed}
 
@@ -43,16 +44,12 @@ moved-few delay s before few c d ts changes =
 -- what holdings of a late start are, and that below nothing changes past the end
 moved-holding : {C : Type 0} (delay : ℕ) (before : Order C) (h k : Option C) (t : ℕ)
     → holdingBefore (delayed delay before) h k t ≡ holdingBefore before h k (t + delay)
-moved-holding delay before (Some c) (Some d) t = moved-fact delay before c d t
-moved-holding delay before None (Some d) t = refl
-moved-holding delay before (Some c) None t = refl
-moved-holding delay before None None t = refl
+moved-holding delay before h k t = holdings-alike (delayed delay before) before t (t + delay) (λ c d. moved-fact delay before c d t) h k
 
 still-past-end : {C : Type 0} (before : Order C) (h k : Option C) (t : ℕ) → holdingBefore before h k t ≡ holdingBefore before h k (clamp t)
-still-past-end before (Some c) (Some d) t = let e : clamp t ≡ clamp (clamp t) = omega arith in ap (before c d) e
-still-past-end before None (Some d) t = refl
-still-past-end before (Some c) None t = refl
-still-past-end before None None t = refl
+still-past-end before h k t =
+    let e : clamp t ≡ clamp (clamp t) = omega arith in
+    holdings-alike before before t (clamp t) (λ c d. ap (before c d) e) h k
 
 -- the first change of a late start is that below from s to e, moved back
 module _ {C : Type 0} (delay : ℕ) (before : Order C) (h k : Option C) (t end s e : ℕ) (from : s ≡ clamp (t + delay)) (upto : e ≡ clamp (end + delay)) where
@@ -82,8 +79,6 @@ module _ {C : Type 0} (delay : ℕ) (before : Order C) (h k : Option C) (t end s
 -- a late start of a mirror of a late start is the mirror of one late start by both delays
 pub piled-holding : {C : Type 0} (first second : ℕ) (before : Order C) (h k : Option C) (t : ℕ)
     → holdingBefore (delayed second (turned (delayed first before))) h k t ≡ holdingBefore (turned (delayed (first + second) before)) h k t
-piled-holding first second before (Some c) (Some d) t =
-    let e : clamp (clamp (clamp t + second) + first) ≡ clamp (clamp t + (first + second)) = omega arith in ap (before d c) e
-piled-holding first second before None (Some d) t = refl
-piled-holding first second before (Some c) None t = refl
-piled-holding first second before None None t = refl
+piled-holding first second before h k t =
+    let e : clamp (clamp (clamp t + second) + first) ≡ clamp (clamp t + (first + second)) = omega arith in
+    holdings-alike (delayed second (turned (delayed first before))) (turned (delayed (first + second) before)) t t (λ c d. ap (before d c) e) h k

@@ -1,5 +1,5 @@
 // Layers pile in any order and depth. Three of them: a late start of a mirror of a late start is the mirror of
-// one late start by both delays, in every answer.
+// one late start by both delays, in its order, its exchanges and its amounts.
 ghost use mathlib.Core.Path.{_≡_};
 ghost use Rattle.family.specs.Order.{NextChange};
 ghost use Rattle.family.specs.Slots.{slotBefore};

@@ -10,14 +10,14 @@ use borrow.Author.Differences.{ints, up, down}
 use Rattle.std.specs.declared.option.Option.{Option}
 use Rattle.std.specs.declared.option.Option.the-variants.{None, Some}
 use Rattle.family.specs.Order.{FirstChange, lastTime}
-use Rattle.family.specs.Amounts.{Steady}
+use Rattle.family.specs.Amounts.{Steady, TurnsBy}
 use Rattle.family.proofs.Change.{first-change-alike, first-change-exists}
 use Rattle.family.proofs.Steady.{never-falls-by-steps, never-rises-by-steps}
 use Rattle.crossing.specs.Line.{line, notNegative}
 use Rattle.crossing.proofs.Lines.{line-steady}
 use Rattle.parabola.specs.declared.curve.Parabola.{Parabola}
 use Rattle.parabola.specs.Height.{height, heightOf}
-use Rattle.parabola.specs.Steps.{TurnsBy, TurnTold}
+use Rattle.parabola.specs.Steps.{TurnTold}
 use Rattle.crossing.proofs.Ring.{times-sum, sum-times}
 
 -- the step from t to t + 1 is bend + 2 × tilt + 2 × bend × t

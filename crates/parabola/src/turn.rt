@@ -1,7 +1,5 @@
 // Where a parabola turns.
-ghost use Prim.Native.Nat.{_≤_};
-ghost use Rattle.family.specs.Amounts.{Steady};
-ghost use Rattle.family.specs.Order.{lastTime};
+ghost use Rattle.family.specs.Amounts.{TurnsBy};
 ghost use Rattle.parabola.specs.Height.{heightOf};
 ghost use Rattle.parabola.specs.Steps.{TurnTold};
 use crate::curve::Parabola;
@@ -12,9 +10,7 @@ impl Parabola {
     // A time up to which the height never falls or never rises, and from which on it again never falls or
     // never rises: the first at which the step to the next time has another sign than the first step.
     pub fn turning(&self) -> u32
-        ensures within { λ r. ⌜ r ≤ lastTime ⌝ }
-        ensures before { λ r. ⌜ Steady (heightOf (now (self .entry))) 0 r ⌝ }
-        ensures after { λ r. ⌜ Steady (heightOf (now (self .entry))) r lastTime ⌝ }
+        ensures { λ r. ⌜ TurnsBy (heightOf (now (self .entry))) r ⌝ }
     {
         match self.step_change() {
             Some(u) => u,

@@ -1,15 +1,14 @@
 -- Squared distances: how large they are, and by what two of them differ.
-use mathlib.Core.Path.{_≡_, refl, sym, ap, _∙_}
+use mathlib.Core.Path.{_≡_, refl}
 use Prim.Native.Nat.{ℕ, _≤_}
 use native.Mathlib.Omega.{arith}
-use lib.IntN.{ℤ, pos, natAbs, _-ℤ_, _*ℤ_}
-use lib.Signed.{leZ}
-use Rattle.family.specs.Order.{lastTime, clamp, fact, FewChanges}
+use lib.IntN.{ℤ, natAbs, _-ℤ_, _*ℤ_}
+use Rattle.family.specs.Order.{lastTime, clamp, FewChanges}
 use Rattle.family.specs.Amounts.{WithinSize, byAmount, Turning}
 use Rattle.family.proofs.Steady.{steady-alike, few-if-turning}
 use Rattle.crossing.specs.Line.{line}
 use Rattle.crossing.proofs.Ring.{square-of-line}
-use Rattle.crossing.proofs.Lines.{line-size, le-by-gap}
+use Rattle.crossing.proofs.Lines.{line-size}
 use Rattle.parabola.specs.Height.{height}
 use Rattle.parabola.proofs.Heights.{height-sum, height-difference}
 use Rattle.parabola.proofs.Turns.{height-turns}
@@ -64,10 +63,3 @@ distances-turn c d =
 
 pub distances-few : FewChanges 2 (byAmount distanceAt)
 distances-few = few-if-turning distanceAt distances-turn
-
--- "c is at or before d" is "the gap is not negative"
-pub gap-tells : (c d : Van) (h : ℕ → ℤ) → ((t : ℕ) → h t ≡ distanceAt d t -ℤ distanceAt c t) → (u : ℕ) → u ≤ 1000000
-    → leZ (pos 0) (h u) ≡ fact (byAmount distanceAt) c d u
-gap-tells c d h is u upto =
-    let known : clamp u ≡ u = omega arith in
-    ap (leZ (pos 0)) (is u) ∙ sym (le-by-gap (distanceAt c u) (distanceAt d u)) ∙ ap (byAmount distanceAt c d) (sym known)

@@ -40,7 +40,7 @@ pub impl ExchangingCard for Van as VanExchanging {
 
 pub impl TurningCard for Van as VanTurning {
     fn turning(&self, other: &Van) -> u32 {
-        turning_of_gap(other, self)
+        turning_of_gap(self, other)
     }
 }
 
@@ -51,11 +51,11 @@ fn crossing_of_gap(c: &Van, d: &Van, t: u32, end: u32) -> Option<u32>
     gap(c, d).next_crossing(t, end)
 }
 
-// A turning time of the second's distance less the first's.
+// A turning time of the first's distance less the second's.
 fn turning_of_gap(c: &Van, d: &Van) -> u32
-    ensures { λ r. ⌜ TurnsAt distanceAt (now (d .entry)) (now (c .entry)) r ⌝ }
+    ensures { λ r. ⌜ TurnsAt distanceAt (now (c .entry)) (now (d .entry)) r ⌝ }
 {
-    gap(c, d).turning()
+    gap(d, c).turning()
 }
 
 // The second's squared distance less the first's.
@@ -89,7 +89,7 @@ impl Van {
         inner(x, y, x, y)
     }
 
-    // Half of what it grows by each minute at opening.
+    // Half the slope of the squared distance at opening.
     fn tilt(&self) -> i64
         ensures value { λ r. ⌜ r ≡ tiltOf (now (self .entry)) ⌝ }
         ensures bound { λ r. ⌜ natAbs r ≤ 200000000 ⌝ }

@@ -139,7 +139,7 @@ fn ties() -> Result<(), Fail> {
     )
 }
 
-// A card that charges 1 for each coin, one that charges most, and one that passes it at the last time but one.
+// A card that charges 1 for each coin, and one that charges most.
 const ONE: Fee = Fee(0, 1, FAR);
 
 const MOST: Fee = Fee(1_000_000_000, 1_000_000, FAR);

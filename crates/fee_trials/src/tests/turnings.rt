@@ -112,7 +112,7 @@ fn caps_close_together() -> Result<(), Fail> {
     Ok(())
 }
 
-// The same at the last time, which is the first that is told where no cap is reached.
+// The same at the last time, which is also taken for the first cap where none is reached.
 #[test]
 fn caps_at_the_last_time() -> Result<(), Fail> {
     for steep in 4_999_990..5_000_003 {

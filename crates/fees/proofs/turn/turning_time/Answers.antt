@@ -7,13 +7,13 @@ use Rattle.fees.proofs.turn.turning_time.Needs as need
 pub returns-then-capped-eq0 : need.returns-then-capped-eq0
 returns-then-capped-eq0 c = turns-at-start (c .args .c .now) (c .args .d .now) _ _ (c .capped-from .ensures) (c .capped-from-2 .ensures) (omega arith)
 
-pub returns-then-risen-level : need.returns-then-risen-level
-returns-then-risen-level c =
+pub returns-then-first-second : need.returns-then-first-second
+returns-then-first-second c =
     turns-down-before-cap (c .args .c .now) (c .args .d .now) _ _ (c .capped-from .ensures) (c .capped-from-2 .ensures) (c .min-capped .result - 1) (c .min-capped .result)
     (omega arith) (omega arith) (omega arith) (omega arith)
 
-pub returns-then-risen-level-2 : need.returns-then-risen-level-2
-returns-then-risen-level-2 c =
+pub returns-then-first-second-2 : need.returns-then-first-second-2
+returns-then-first-second-2 c =
     turns-up-before-cap (c .args .c .now) (c .args .d .now) _ _ (c .capped-from .ensures) (c .capped-from-2 .ensures) (c .min-capped .result - 1) (c .min-capped .result)
     (omega arith) (omega arith) (omega arith) (omega arith)
 

@@ -7,4 +7,4 @@ pub returns : need.returns
 returns c =
     let h = heightOf (c .gap .result) in
     let m = c .turning .result in
-    (c .turning .ensures .within, steady-alike h _ 0 m (c .gap .ensures) (c .turning .ensures .before), steady-alike h _ m lastTime (c .gap .ensures) (c .turning .ensures .after))
+    (c .turning .ensures .0, steady-alike h _ 0 m (c .gap .ensures) (c .turning .ensures .1), steady-alike h _ m lastTime (c .gap .ensures) (c .turning .ensures .2))
