@@ -131,10 +131,31 @@ fn at_the_limits() -> Result<(), Fail> {
     agree(
         &[
             // the largest discriminant and its neighbour, from opening and from the first exchange
-            (inbound, Path(100_000, 100_000, 1_000, 999), 0, ALL, Some(400_101), Some(1)),
-            (inbound, Path(100_000, 100_000, 1_000, 999), 1, ALL, Some(400_101), Some(400_101)),
+            (
+                inbound,
+                Path(100_000, 100_000, 1_000, 999),
+                0,
+                ALL,
+                Some(400_101),
+                Some(1),
+            ),
+            (
+                inbound,
+                Path(100_000, 100_000, 1_000, 999),
+                1,
+                ALL,
+                Some(400_101),
+                Some(400_101),
+            ),
             // the smallest
-            (Path(100_000, 100_000, 1_000, -1_000), Path(0, 0, 0, 0), 0, ALL, None, None),
+            (
+                Path(100_000, 100_000, 1_000, -1_000),
+                Path(0, 0, 0, 0),
+                0,
+                ALL,
+                None,
+                None,
+            ),
             // the largest speeds and positions
             (
                 inbound,
