@@ -1,11 +1,22 @@
 // Which vans can be made, and how far they are.
 use super::Path;
+use super::pair;
 use super::van;
+use cards::ByAmountFamily;
+use cards::ByAmountPriced;
 use cards::PricedCard;
+use family::PricedFamily;
 use family::Refusal;
 use family::RefusalDebug;
 use family::RefusalPartialEq;
+use layers::LateStart;
+use layers::LateStartFamily;
+use layers::LateStartPriced;
+use layers::Mirror;
+use layers::MirrorPriced;
+use slots::SlotsPlaces;
 use std::test::*;
+use vans::VanExchanging;
 use vans::VanPriced;
 
 #[test]
@@ -67,4 +78,17 @@ fn distances() -> Result<(), Fail> {
         check_eq(van(path)?.amount_at(t), distance)?;
     }
     Ok(())
+}
+
+// The largest amount in a mirror of a late start, where the time below soon passes the end.
+#[test]
+fn farthest_in_layers() -> Result<(), Fail> {
+    let far = Path(100_000, 100_000, 1_000, 1_000);
+    let layers = Mirror(LateStart::new(pair(far, far)?, 999_999));
+    check_eq(layers.amount_at(1, 1), Some(-2_000_400_020_000_000_000))?;
+    let mut cells = [7i64; 3];
+    check_eq(layers.amounts(0, 0, &mut cells), Ok(()))?;
+    check_eq(cells[0], -2_000_396_019_602_000_000)?;
+    check_eq(cells[1], -2_000_400_020_000_000_000)?;
+    check_eq(cells[2], -2_000_400_020_000_000_000)
 }
