@@ -6,7 +6,6 @@ use cards::ByAmountTurning;
 use family::Family;
 use family::Refusal;
 use fees::FeeCard;
-use fees::FeeCardPriced;
 use fees::FeeCardTurning;
 use fees::FeeCards;
 use slots::Slots;

@@ -10,18 +10,16 @@ use family::Refusal;
 use family::RefusalDebug;
 use family::RefusalPartialEq;
 use fees::FeeCard;
-use fees::FeeCardPriced;
 use fees::FeeCardTurning;
 use fees::FeeCards;
 use hoppers::Hopper;
 use hoppers::HopperExchanging;
-use hoppers::HopperPriced;
 use hoppers::Hoppers;
 use layers::LateStart;
-use layers::LateStartFamily;
 use layers::LateStartPriced;
 use slots::Slots;
 use slots::SlotsPlaces;
+use std::fmt::Debug;
 use std::test::*;
 
 mod agree;
@@ -149,11 +147,14 @@ fn tells_late<F: PricedFamily + Drop>(below: F, delay: u32, table: Table<'_>) ->
 }
 
 // Slots 0 and 1 are filled and the rest are empty.
-fn kept<F: Family>(family: &mut F, card: F::Card) -> Result<(), Fail> {
+fn kept<C: Copy + Debug + PartialEq<C>, F: Family<Card = C>>(
+    family: &mut F,
+    card: C,
+) -> Result<(), Fail> {
     check_eq(family.put(0, card), Err(Refusal::SlotFilled))?;
     check_eq(family.put(9, card), Ok(()))?;
-    check(family.card(9).is_some())?;
+    check_eq(family.card(9), Some(card))?;
     check_eq(family.lift(9), Ok(()))?;
     check_eq(family.lift(9), Err(Refusal::SlotEmpty))?;
-    check(family.card(9).is_none())
+    check_eq(family.card(9), None)
 }

@@ -8,7 +8,6 @@ use adapter::AdapterFamily;
 use cards::ByAmountTurning;
 use family::Family;
 use family::RefusalDebug;
-use fees::FeeCardPriced;
 use fees::FeeCardTurning;
 use slots::SlotsPlaces;
 use std::test::*;

@@ -8,7 +8,6 @@ use adapter::AdapterFamily;
 use cards::ByAmountTurning;
 use family::Family;
 use family::RefusalDebug;
-use fees::FeeCardPriced;
 use fees::FeeCardTurning;
 use slots::SlotsPlaces;
 use std::test::*;
@@ -90,15 +89,15 @@ fn a_cap_near_an_exchange() -> Result<(), Fail> {
 fn both_caps_at_once() -> Result<(), Fail> {
     agree(
         &[
-            // both are reached at 10, the steeper card by 1 and the other by 2: the difference turns back there,
-            // from level, to level, and to less
+            // both are reached at 10, the steeper card's by 1 and the other's by 2: the difference turns back
+            // there, from level, to level, and above it
             (Fee(0, 5, 46), Fee(27, 2, 47), &[], &[9, 10]),
             (Fee(0, 5, 46), Fee(26, 2, 46), &[9, 10], &[9]),
             (Fee(0, 5, 46), Fee(25, 2, 45), &[9], &[9]),
             // the same in the other order of the two
             (Fee(27, 2, 47), Fee(0, 5, 46), &[9, 10], &[]),
             (Fee(26, 2, 46), Fee(0, 5, 46), &[9], &[9, 10]),
-            // the steeper by 5 and the other by 1: the difference goes on
+            // the steeper card's by 5 and the other's by 1: the difference goes on
             (Fee(0, 5, 50), Fee(27, 2, 46), &[10], &[9]),
             (Fee(0, 5, 50), Fee(28, 2, 47), &[10], &[10]),
             // each by 1: the difference stands still
@@ -139,42 +138,40 @@ fn ties() -> Result<(), Fail> {
     )
 }
 
-// A card that charges 1 for each coin, and one that charges most.
+// A card that charges 1 for each coin, and one that charges as much for all as that for the last but one.
 const ONE: Fee = Fee(0, 1, FAR);
 
+const STILL: Fee = Fee(999_999, 0, FAR);
+
+// The highest card, the highest rate alone, and the highest opening fee alone.
 const MOST: Fee = Fee(1_000_000_000, 1_000_000, FAR);
+
+const FASTEST: Fee = Fee(0, 1_000_000, FAR);
+
+const DEAREST: Fee = Fee(1_000_000_000, 0, FAR);
+
+// Charges 4,999,994 at the last time but one.
+const LATE: Fee = Fee(2_999_996, 2, FAR);
 
 #[test]
 fn last_coins() -> Result<(), Fail> {
     agree(
         &[
             // no cap is reached: level at the last time but one, at the last, and past it
-            (ONE, Fee(999_999, 0, FAR), &[ALL], &[999_999]),
+            (ONE, STILL, &[ALL], &[999_999]),
             (ONE, Fee(1_000_000, 0, FAR), &[], &[ALL]),
             (ONE, Fee(1_000_001, 0, FAR), &[], &[]),
             // a cap is reached at the last time, and one before it
-            (
-                Fee(0, 1, 1_000_000),
-                Fee(999_999, 0, FAR),
-                &[ALL],
-                &[999_999],
-            ),
-            (Fee(0, 1, 999_999), Fee(999_999, 0, FAR), &[], &[999_999]),
+            (Fee(0, 1, 1_000_000), STILL, &[ALL], &[999_999]),
+            (Fee(0, 1, 999_999), STILL, &[], &[999_999]),
             // dearer at the last time but one alone: the cap at the last time turns the difference back
-            (
-                Fee(0, 5, 4_999_996),
-                Fee(2_999_996, 2, FAR),
-                &[999_999, ALL],
-                &[999_999],
-            ),
-            // the highest rate, level where both caps are reached
-            (MOST, Fee(0, 1_000_000, FAR), &[ALL], &[]),
-            (
-                Fee(0, 1_000_000, FAR),
-                Fee(1_000_000_000, 0, FAR),
-                &[1_001],
-                &[1_000],
-            ),
+            (Fee(0, 5, 4_999_996), LATE, &[999_999, ALL], &[999_999]),
+            // level at the last time, where the second cap is reached too
+            (MOST, FASTEST, &[ALL], &[]),
+            // the highest numbers, level early
+            (FASTEST, DEAREST, &[1_001], &[1_000]),
+            // the highest opening fee is passed at once
+            (MOST, DEAREST, &[1], &[]),
         ],
     )
 }

@@ -2,14 +2,12 @@
 use super::C;
 use super::D;
 use super::pair;
-use adapter::AdapterFamily;
 use adapter::AdapterPriced;
 use cards::ByAmountTurning;
 use family::PricedFamily;
 use family::Refusal;
 use family::RefusalDebug;
 use family::RefusalPartialEq;
-use fees::FeeCardPriced;
 use fees::FeeCardTurning;
 use slots::SlotsPlaces;
 use std::test::*;

@@ -12,7 +12,6 @@ use family::RefusalPartialEq;
 use fees::FeeCard;
 use fees::FeeCardDebug;
 use fees::FeeCardPartialEq;
-use fees::FeeCardPriced;
 use fees::FeeCardTurning;
 use slots::SlotsPlaces;
 use std::test::*;

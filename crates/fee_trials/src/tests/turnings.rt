@@ -8,7 +8,6 @@ use super::next_random;
 use super::pair;
 use super::small_fee;
 use adapter::Adapter;
-use adapter::AdapterFamily;
 use cards::ByAmountTurning;
 use cards::TurningCard;
 use family::Refusal;
@@ -18,7 +17,6 @@ use family::TurningFamily;
 use fees::FeeCard;
 use fees::FeeCardDebug;
 use fees::FeeCardPartialEq;
-use fees::FeeCardPriced;
 use fees::FeeCardTurning;
 use slots::SlotsPlaces;
 use std::test::*;
@@ -97,8 +95,8 @@ fn small_cards() -> Result<(), Fail> {
     Ok(())
 }
 
-// The steeper card reaches a cap of 41 to 55 at 9, 10 or 11 coins, the other one of 44 to 49 as well: at the
-// same time, or one apart, and by a shorter or a longer step.
+// The steeper card reaches a cap of 41 to 55 at 9, 10 or 11 coins, and so the other one of 44 to 49: at the
+// same time, one apart or two apart, and by a shorter or a longer step.
 #[test]
 fn caps_close_together() -> Result<(), Fail> {
     for steep in 41..56 {
@@ -112,7 +110,7 @@ fn caps_close_together() -> Result<(), Fail> {
     Ok(())
 }
 
-// The same at the last time, which is also taken for the first cap where none is reached.
+// The same two before the last time, one before it, at it, or never.
 #[test]
 fn caps_at_the_last_time() -> Result<(), Fail> {
     for steep in 4_999_990..5_000_003 {

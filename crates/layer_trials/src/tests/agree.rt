@@ -6,7 +6,6 @@ use super::UNTOUCHED;
 use super::hoppers;
 use super::tells;
 use adapter::Adapter;
-use adapter::AdapterFamily;
 use adapter::AdapterPriced;
 use agreement::hopper_exchange;
 use cards::ByAmountFamily;
@@ -15,7 +14,6 @@ use family::Family;
 use family::Refusal;
 use family::RefusalDebug;
 use hoppers::HopperExchanging;
-use hoppers::HopperPriced;
 use hoppers::HopperTurning;
 use slots::SlotsPlaces;
 use std::test::*;
@@ -69,6 +67,9 @@ fn signs_and_ties() -> Result<(), Fail> {
     )
 }
 
+// A hopper that is empty at opening, and gains a coin a minute.
+const GAINS: Line = Line(0, 1);
+
 #[test]
 fn starts_and_ends() -> Result<(), Fail> {
     all_both_ways(
@@ -82,25 +83,11 @@ fn starts_and_ends() -> Result<(), Fail> {
             (Line(500, 10), Line(800, 4), 0, 49, None, None),
             (Line(500, 10), Line(800, 4), 60, 40, None, None),
             // level at the last minute but one, at the last, and past it
-            (
-                Line(0, 1),
-                Line(999_999, 0),
-                0,
-                ALL,
-                Some(ALL),
-                Some(999_999),
-            ),
-            (Line(0, 1), Line(1_000_000, 0), 0, u32::MAX, None, Some(ALL)),
-            (Line(0, 1), Line(1_000_001, 0), 0, ALL, None, None),
+            (GAINS, Line(999_999, 0), 0, ALL, Some(ALL), Some(999_999)),
+            (GAINS, Line(1_000_000, 0), 0, u32::MAX, None, Some(ALL)),
+            (GAINS, Line(1_000_001, 0), 0, ALL, None, None),
             // a start past the last minute
-            (
-                Line(0, 1),
-                Line(1_000_000, 0),
-                ALL + 1,
-                u32::MAX,
-                None,
-                None,
-            ),
+            (GAINS, Line(1_000_000, 0), ALL + 1, u32::MAX, None, None),
         ],
     )
 }
@@ -142,7 +129,7 @@ fn every_minute() -> Result<(), Fail> {
     Ok(())
 }
 
-// The hoppers of 500 and 10, and of 800 and 4.
+// A hopper with 500 coins at a rate of 10, and one with 800 at a rate of 4.
 const LEVEL_AT_50: Table<'static> = Table {
     bound: 2,
     exchanges: &[(0, ALL, Some(51), Some(50)), (51, ALL, None, None)],

@@ -6,19 +6,14 @@ use super::both_told;
 use super::hoppers;
 use super::sample;
 use super::tells_late;
-use adapter::AdapterFamily;
 use adapter::AdapterPriced;
-use cards::ByAmountFamily;
 use cards::ByAmountPriced;
 use cards::ByAmountTurning;
-use family::Family;
+use family::PricedFamily;
 use family::RefusalDebug;
-use fees::FeeCardPriced;
 use fees::FeeCardTurning;
 use hoppers::HopperExchanging;
-use hoppers::HopperPriced;
 use layers::LateStart;
-use layers::LateStartFamily;
 use layers::LateStartPriced;
 use slots::SlotsPlaces;
 use std::test::*;
@@ -41,18 +36,24 @@ fn delays() -> Result<(), Fail> {
 }
 
 // A delay; then all times at which "slot 0 is at or before slot 1" changes, and all at which "slot 1 is at or
-// before slot 0" does.
-type Row<'a> = (u32, &'a [u32], &'a [u32]);
+// before slot 0" does; then whether the first holds at 0, and the amount of slot 0 there.
+type Row<'a> = (u32, &'a [u32], &'a [u32], bool, i64);
+
+fn told_late<F: PricedFamily>(late: &F, row: Row<'_>) -> Result<(), Fail> {
+    let (_, forth, back, order, amount) = row;
+    both_told(late, forth, back)?;
+    check_eq(late.compare(0, 1, 0), order)?;
+    check_eq(late.amount_at(0, 0), Some(amount))
+}
 
 // The family below, after it has been asked late.
-fn asked_late<F: Family + Drop>(below: F, row: Row<'_>) -> Result<F, Fail> {
-    let (delay, forth, back) = row;
-    let late = LateStart::new(below, delay);
-    both_told(&late, forth, back)?;
+fn asked_late<F: PricedFamily + Drop>(below: F, row: Row<'_>) -> Result<F, Fail> {
+    let late = LateStart::new(below, row.0);
+    told_late(&late, row)?;
     Ok(late.below)
 }
 
-fn agree_late<F: Family + Drop>(family: F, rows: &[Row<'_>]) -> Result<(), Fail> {
+fn agree_late<F: PricedFamily + Drop>(family: F, rows: &[Row<'_>]) -> Result<(), Fail> {
     let mut below = family;
     for &row in rows {
         below = asked_late(below, row)?;
@@ -66,21 +67,21 @@ fn a_sample() -> Result<(), Fail> {
         sample()?,
         &[
             // as below, and one coin sooner
-            (0, &[34, 251], &[34, 250]),
-            (1, &[33, 250], &[33, 249]),
+            (0, &[34, 251], &[34, 250], false, 100),
+            (1, &[33, 250], &[33, 249], false, 102),
             // the first exchange is one coin off, at the start, and before it
-            (33, &[1, 218], &[1, 217]),
-            (34, &[217], &[216]),
-            (35, &[216], &[215]),
+            (33, &[1, 218], &[1, 217], false, 166),
+            (34, &[217], &[216], true, 168),
+            (35, &[216], &[215], true, 170),
             // and so the second
-            (249, &[2], &[1]),
-            (250, &[1], &[]),
-            (251, &[], &[]),
+            (249, &[2], &[1], true, 598),
+            (250, &[1], &[], true, 600),
+            (251, &[], &[], false, 602),
             // long past
-            (999_999, &[], &[]),
-            (1_000_000, &[], &[]),
-            (1_000_001, &[], &[]),
-            (u32::MAX, &[], &[]),
+            (999_999, &[], &[], false, 1_000),
+            (1_000_000, &[], &[], false, 1_000),
+            (1_000_001, &[], &[], false, 1_000),
+            (u32::MAX, &[], &[], false, 1_000),
         ],
     )
 }
@@ -91,13 +92,16 @@ fn up_to_the_last_time() -> Result<(), Fail> {
     agree_late(
         hoppers(Line(0, 1), Line(999_999, 0))?,
         &[
-            (0, &[ALL], &[999_999]),
-            (1, &[999_999], &[999_998]),
-            (999_998, &[2], &[1]),
-            (999_999, &[1], &[]),
-            (1_000_000, &[], &[]),
-            (1_000_001, &[], &[]),
-            (u32::MAX, &[], &[]),
+            // as below, and one minute sooner
+            (0, &[ALL], &[999_999], true, 0),
+            (1, &[999_999], &[999_998], true, 1),
+            // one minute off, level at the start, and past it
+            (999_998, &[2], &[1], true, 999_998),
+            (999_999, &[1], &[], true, 999_999),
+            (1_000_000, &[], &[], false, 1_000_000),
+            // a longer delay is read as that
+            (1_000_001, &[], &[], false, 1_000_000),
+            (u32::MAX, &[], &[], false, 1_000_000),
         ],
     )
 }
@@ -177,13 +181,14 @@ const LEVEL_AT_LAST: Table<'static> = Table {
         (u32::MAX, u32::MAX, None, None),
     ],
     orders: &[
+        // one before the last time below, at it, and past it
         (1, 0, 999_989, false),
         (1, 0, 999_990, true),
         (1, 0, 999_991, true),
         (1, 0, u32::MAX, true),
     ],
     amounts: &[
-        // one before the last time below, at it, and past it
+        // the same
         (0, 999_989, Some(999_999)),
         (0, 999_990, Some(1_000_000)),
         (0, 999_991, Some(1_000_000)),

@@ -5,16 +5,14 @@ use super::Table;
 use super::UNTOUCHED;
 use super::hoppers;
 use super::tells_late;
-use cards::ByAmountFamily;
 use cards::ByAmountPriced;
 use family::Refusal;
 use family::RefusalDebug;
 use hoppers::HopperExchanging;
-use hoppers::HopperPriced;
 use slots::SlotsPlaces;
 use std::test::*;
 
-// The hoppers of 500 and 10, and of 800 and 4, late by 10.
+// Of a hopper with 500 coins at a rate of 10, and one with 800 at a rate of 4, late by 10.
 const LATE_BY_10: [Run; 21] = [
     // from the start on
     (0, 0, 3, Ok(()), [600, 610, 620]),
@@ -46,7 +44,8 @@ const LATE_BY_10: [Run; 21] = [
     (9, 1_000_001, 0, Err(Refusal::PastEnd), UNTOUCHED),
 ];
 
-// Every cell has the last amount.
+// Of a hopper with 500 coins at a rate of 10, and one with 800 at a rate of -4, late by the last time or
+// more: every cell has the last amount.
 const PAST_THE_END: [Run; 5] = [
     (0, 0, 3, Ok(()), [10_000_500, 10_000_500, 10_000_500]),
     (1, 0, 3, Ok(()), [-3_999_200, -3_999_200, -3_999_200]),

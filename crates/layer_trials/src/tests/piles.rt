@@ -1,6 +1,7 @@
 // Piles of three layers over the sample and over hoppers.
 use super::ALL;
 use super::Line;
+use super::UNTOUCHED;
 use super::both_told;
 use super::hopper;
 use super::hoppers;
@@ -17,10 +18,12 @@ use family::Refusal;
 use family::RefusalDebug;
 use family::RefusalPartialEq;
 use fees::FeeCard;
-use fees::FeeCardPriced;
+use fees::FeeCardDebug;
+use fees::FeeCardPartialEq;
 use fees::FeeCardTurning;
+use hoppers::HopperDebug;
 use hoppers::HopperExchanging;
-use hoppers::HopperPriced;
+use hoppers::HopperPartialEq;
 use hoppers::Hoppers;
 use layers::LateMirrorLate;
 use layers::LateStart;
@@ -33,28 +36,20 @@ use layers::amount_in_pile;
 use layers::compare_in_pile;
 use layers::exchange_in_pile;
 use slots::SlotsPlaces;
+use std::fmt::Debug;
 use std::test::*;
 
 // Times to ask at: about the exchanges of the families, and about the last time.
-const TIMES: [u32; 14] = [
-    0,
-    1,
-    2,
-    33,
-    34,
-    215,
-    216,
-    217,
-    251,
-    999_965,
-    999_966,
-    999_999,
-    ALL,
-    u32::MAX,
-];
+const TIMES: [u32; 9] = [0, 1, 34, 216, 217, 999_965, 999_966, ALL, u32::MAX];
 
 // Two slots, of which 9 is empty.
 const SLOTS: [(u8, u8); 5] = [(0, 1), (1, 0), (0, 9), (9, 0), (9, 9)];
+
+// The answer to a run for three cells, and what they hold then.
+fn run_of<F: PricedFamily>(family: &F, slot: u8, t: u32) -> (Result<(), Refusal>, [i64; 3]) {
+    let mut cells = UNTOUCHED;
+    (family.amounts(slot, t, &mut cells), cells)
+}
 
 fn same_orders<A: Family, B: Family>(a: &A, b: &B, t: u32) -> Result<(), Fail> {
     for &(i, j) in &SLOTS {
@@ -67,11 +62,7 @@ fn same_orders<A: Family, B: Family>(a: &A, b: &B, t: u32) -> Result<(), Fail> {
 fn same_amounts<A: PricedFamily, B: PricedFamily>(a: &A, b: &B, t: u32) -> Result<(), Fail> {
     for slot in [0, 1, 9] {
         check_eq(a.amount_at(slot, t), b.amount_at(slot, t))?;
-        let mut ours = [7i64; 3];
-        let mut theirs = [7i64; 3];
-        let found = a.amounts(slot, t, &mut ours);
-        check_eq(found, b.amounts(slot, t, &mut theirs))?;
-        check_eq(ours, theirs)?;
+        check_eq(run_of(a, slot, t), run_of(b, slot, t))?;
     }
     Ok(())
 }
@@ -81,7 +72,7 @@ fn same<A: PricedFamily, B: PricedFamily>(a: &A, b: &B) -> Result<(), Fail> {
         same_orders(a, b, t)?;
         same_amounts(a, b, t)?;
     }
-    Ok(())
+    check_eq(a.bound(), b.bound())
 }
 
 // The functions for piles tell of a pile what another family tells.
@@ -101,26 +92,33 @@ fn in_pile<F: PricedFamily, B: PricedFamily>(
     Ok(())
 }
 
-fn all_in_pile<F: PricedFamily, B: PricedFamily>(
-    pile: &LateMirrorLate<F>,
-    b: &B,
-) -> Result<(), Fail> {
-    for &t in &TIMES {
-        in_pile(pile, b, t)?;
-    }
-    same(pile, b)
-}
-
 // The delay at the bottom of a pile and the one at its top; then all times at which "slot 0 is at or before
 // slot 1" changes, and all at which "slot 1 is at or before slot 0" does.
 type Row<'a> = (u32, u32, &'a [u32], &'a [u32]);
 
+// The first is a pile, and the second is to tell the same.
+fn told_alike<F: PricedFamily, B: PricedFamily>(
+    pile: &LateMirrorLate<F>,
+    once: &B,
+    forth: &[u32],
+    back: &[u32],
+) -> Result<(), Fail> {
+    both_told(once, forth, back)?;
+    for &t in &TIMES {
+        in_pile(pile, once, t)?;
+    }
+    same(pile, once)
+}
+
 // A pile over one family is the mirror of one late start over another with the same cards.
 fn piled<F: PricedFamily + Drop>(one: F, other: F, row: Row<'_>) -> Result<(), Fail> {
     let (a, b, forth, back) = row;
-    let pile = LateStart::new(Mirror(LateStart::new(one, a)), b);
-    both_told(&pile, forth, back)?;
-    all_in_pile(&pile, &Mirror(LateStart::new(other, a.saturating_add(b))))
+    told_alike(
+        &LateStart::new(Mirror(LateStart::new(one, a)), b),
+        &Mirror(LateStart::new(other, a.saturating_add(b))),
+        forth,
+        back,
+    )
 }
 
 // The sample, level at 250.
@@ -166,7 +164,10 @@ fn over_hoppers() -> Result<(), Fail> {
 }
 
 // Put, lift and card in a late start, and in a pile over it.
-fn kept_in_layers<F: Family + Drop>(below: F, card: F::Card) -> Result<(), Fail> {
+fn kept_in_layers<C: Copy + Debug + PartialEq<C>, F: Family<Card = C> + Drop>(
+    below: F,
+    card: C,
+) -> Result<(), Fail> {
     let mut late = LateStart::new(below, 10);
     kept(&mut late, card)?;
     kept(&mut LateStart::new(Mirror(late), 24), card)
