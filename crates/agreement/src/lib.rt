@@ -1,6 +1,8 @@
 // Formula and bisection agree: hoppers and vans find exchanges by a formula of their own, and as turning
 // families they come through the adapter too. The functions here ask both ways and promise that the answers
 // are the same wherever the same cards stand.
+#![tactic(auto)]
+
 ghost use Rattle.std.specs.Prelude.{◌≡◌};
 ghost use Rattle.family.specs.Order.{NextChange};
 ghost use Rattle.family.specs.Slots.{slot_before};

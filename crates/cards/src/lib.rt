@@ -4,6 +4,8 @@
 // two cards have a turning time. With a formula for the next exchange of two cards a table of them is a
 // priced family; where a turning time can be told, it is a turning family; it may be both.
 // `ByAmount(Slots::new())` is the family with every slot empty.
+#![tactic(auto)]
+
 mod by_amount;
 mod card;
 mod priced;

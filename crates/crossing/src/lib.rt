@@ -8,6 +8,8 @@
 //
 // Example: from 300 by −6 a time the number is 0 at w = 50, still not negative, and −6 at w = 51, the
 // answer. From −300 by 6 it is 0 at w = 50, and that is the answer.
+#![tactic(auto)]
+
 ghost use Rattle.std.specs.Prelude.{◌≡◌, ◌-◌, FitsSigned};
 ghost use Rattle.std.specs.Int.{w32};
 ghost use Rattle.family.specs.Order.{FirstChange};

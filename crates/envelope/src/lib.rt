@@ -1,4 +1,6 @@
 // Charts: who leads at which time.
+#![tactic(auto)]
+
 #[derive(Clone, Copy)]
 pub struct Stretch {
     pub first: u32,

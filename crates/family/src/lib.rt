@@ -20,6 +20,8 @@
 // A new family has to give its slot map, its order and its swap bound as ghost members, prove the two
 // laws of them, and write six functions against the contracts below. Whatever is built on the interface
 // then holds for it, with nothing more to show.
+#![tactic(auto)]
+
 ghost use Rattle.std.specs.Prelude.{◌≡◌, ℕ, ◌≤◌, OnErr};
 ghost use Rattle.family.specs.Order.{Order, TotalPreorder, FewChanges, NextChange};
 ghost use Rattle.family.specs.Slots.{Cards, slot_before, PutAnswer, LiftAnswer};

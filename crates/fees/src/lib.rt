@@ -3,6 +3,8 @@
 // A card charges opening + rate × t for t coins, and never more than its cap. A cap below the opening fee is
 // allowed: such a card charges its cap throughout. Two cards may trade places twice, and there is no formula
 // here for when: fee cards are a turning family, and come to the engine through the adapter.
+#![tactic(auto)]
+
 mod card;
 mod charge;
 mod make;

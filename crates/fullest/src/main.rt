@@ -1,4 +1,6 @@
 // Tells the fullest of some hoppers at each minute, and prints an account of it.
+#![tactic(auto)]
+
 use account::Account;
 use cards::ByAmount;
 use family::Family;

@@ -1,4 +1,6 @@
 // Hoppers: straight lines of fill over the minutes since opening.
+#![tactic(auto)]
+
 mod exchange;
 mod hopper;
 mod make;

@@ -1,5 +1,7 @@
 // Layers: families made of the family below them. A layer keeps the cards of the family below, is priced
 // where that is, and is itself a family that a layer can lie over.
+#![tactic(auto)]
+
 mod late;
 mod late_priced;
 mod mirror;

@@ -8,6 +8,8 @@
 // Example: start 50,000, tilt −30,000, bend 10,000 is 50,000 − 60,000 t + 10,000 t². Its discriminant is
 // 400,000,000; it is below 0 where the half slope −30,000 + 10,000 t lies within ±19,999, which is from
 // 2 to 4. At 1 and at 5 it is 0.
+#![tactic(auto)]
+
 mod band;
 mod curve;
 mod edges;

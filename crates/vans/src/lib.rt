@@ -2,6 +2,8 @@
 //
 // The difference of two squared distances is a parabola over time, so two vans trade places at most twice,
 // and when they do is told by a formula. Vans are a turning family too.
+#![tactic(auto)]
+
 mod exchange;
 mod make;
 mod van;
