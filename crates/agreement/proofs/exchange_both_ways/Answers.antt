@@ -6,8 +6,8 @@ returns g c =
     let family = c.args.family.now in
     let below = c.args.adapter.now.0 in
     record {
-      first = c.next-exchange-first.ensures;
-      second = c.next-exchange-second.ensures;
+      first = c.next_exchange-first.ensures;
+      second = c.next_exchange-second.ensures;
       agree = one_answer (g.F.Family.before family) (g.T.TurningFamily.amount below) (g.F.Family.slots family) (g.T.TurningFamily.slots below)
-          c.args.i c.args.j c.args.t c.args.end _ _ c.next-exchange-first.ensures c.next-exchange-second.ensures;
+          c.args.i c.args.j c.args.t c.args.end _ _ c.next_exchange-first.ensures c.next_exchange-second.ensures;
     }

@@ -5,10 +5,10 @@ use Rattle.crossing.proofs.wait.Goals as goal
 
 pub returns-then-gap-ge0 : goal.returns-then-gap-ge0
 returns-then-gap-ge0 c =
-    falls_below c.args.gap c.args.drift c.unsigned-abs.result c.unsigned-abs-then-gap-ge0.result
+    falls_below c.args.gap c.args.drift c.unsigned_abs.result c.unsigned_abs-then-gap-ge0.result
     (omega (arith, ints)) (omega (arith, ints)) (omega (arith, ints)) (omega (arith, ints))
 
 pub returns : goal.returns
 returns c =
-    rises_to_zero c.args.gap c.args.drift (c.unsigned-abs-2.result - 1) c.unsigned-abs-3.result
+    rises_to_zero c.args.gap c.args.drift (c.unsigned_abs-2.result - 1) c.unsigned_abs-3.result
     (omega (arith, ints)) (omega (arith, ints)) (omega (arith, ints)) (omega (arith, ints))

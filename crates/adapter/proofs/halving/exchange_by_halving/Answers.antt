@@ -2,12 +2,12 @@ use Rattle.std.proofs.Common.{◌≡◌, Some, arith, rules}
 use Rattle.adapter.proofs.Sides.{once_by_turning}
 use Rattle.adapter.proofs.halving.exchange_by_halving.Goals as goal
 
-pub on-both-sides-requires : goal.on-both-sides-requires
-on-both-sides-requires g c =
+pub on_both_sides-requires : goal.on_both_sides-requires
+on_both_sides-requires g c =
     let below = c.args.below.now in
     let turns = c.turning-turning.ensures in
-    let at_i : g.T.TurningFamily.slots below c.args.i ≡ Some c.in-ok-c.c = cc (c.card.ensures, c.in-ok-c.was) in
-    let at_j : g.T.TurningFamily.slots below c.args.j ≡ Some c.in-ok-d.d = cc (c.card-2.ensures, c.in-ok-d.was) in
+    let at_i : g.T.TurningFamily.slots below c.args.i ≡ Some c.in_ok-c.c = cc (c.card.ensures, c.in_ok-c.was) in
+    let at_j : g.T.TurningFamily.slots below c.args.j ≡ Some c.in_ok-d.d = cc (c.card-2.ensures, c.in_ok-d.was) in
     let part = once_by_turning (g.T.TurningFamily.amount below) (g.T.TurningFamily.slots below) c.args.i c.args.j _ _ in
     record {
       ends = search rules;

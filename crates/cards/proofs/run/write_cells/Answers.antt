@@ -6,8 +6,8 @@ use Rattle.cards.proofs.run.write_cells.Goals as goal
 pub loop-cell-preserved : goal.loop-cell-preserved
 loop-cell-preserved g c =
     let amount = g.C.PricedCard.amount c.args.card.now in
-    let fits : SFits w64 c.amount-at.result = search rules in (
+    let fits : SFits w64 c.amount_at.result = search rules in (
       omega arith,
-      one_cell_more (λ k. amount (clamp (c.args.first + k))) c.loop-cell.cells c.loop-cell.cell-index c.amount-at.result
-          (omega arith) fits (c.amount-at.ensures ∙ ap (λ t. amount (clamp t)) c.loop-cell.invariant.0) c.loop-cell.invariant.1,
+      one_cell_more (λ k. amount (clamp (c.args.first + k))) c.loop-cell.cells c.loop-cell.cell-index c.amount_at.result
+          (omega arith) fits (c.amount_at.ensures ∙ ap (λ t. amount (clamp t)) c.loop-cell.invariant.0) c.loop-cell.invariant.1,
     )

@@ -13,7 +13,7 @@ loop-reading-preserved g c =
     let slots = g.F.Family.slots in
     let reading = get_or c.args.readings.now c.loop-reading.reading-index none_read in
     let more = take_more c.args.readings.now c.loop-reading.reading-index none_read (omega arith) in (
-      rw (more, c.in-ok-push.ensures.items)
+      rw (more, c.in_ok-push.ensures.items)
           (one_more_tried (slots c.args.family.now) (slots c.loop-reading.family) (slots c.place-answer.new.family)
           (take c.loop-reading.reading-index c.args.readings.now) (vec_items c.loop-reading.attempts) reading
           (record { reading = reading; answer = c.place-answer.result }) c.loop-reading.invariant.0 refl c.place-answer.ensures.answer),

@@ -4,10 +4,10 @@ use Rattle.fullest.specs.Stretches.{Leading}
 use Rattle.fullest.proofs.Told.{one_stretch_more, none_told}
 use Rattle.fullest.proofs.chart.stretches.Goals as goal
 
-pub returns-in-default : goal.returns-in-default
-returns-in-default g c =
+pub returns-in_default : goal.returns-in_default
+returns-in_default g c =
     let f = c.args.family.now in
-    let none = c.in-default.ensures in
+    let none = c.in_default.ensures in
     inl (none_told (g.F.Family.before f) (g.F.Family.slots f) (g.F.PricedFamily.amount f) _ none c.loop-first.invariant.2, none)
 
 pub loop-first-preserved : goal.loop-first-preserved
@@ -16,7 +16,7 @@ loop-first-preserved g c =
     let s = c.in-Some.stretch in
     let found = c.in-Some.ensures in
     let told = vec_items c.loop-first.told in
-    let pushed : vec_items c.push.new.self ≡ told ++ s ∷ [] = c.in-ok-push.ensures.items in
+    let pushed : vec_items c.push.new.self ≡ told ++ s ∷ [] = c.in_ok-push.ensures.items in
     rw pushed (
       omega (arith, found.1.0.1),
       one_stretch_more 0 c.loop-first.first told s c.loop-first.invariant.1 found.0,

@@ -2,17 +2,17 @@ use Rattle.std.proofs.Common.{arith}
 use Rattle.layers.specs.Delay.{moved_none, moved_some}
 use Rattle.layers.proofs.late.delayed_exchange.Goals as goal
 
-pub returns-in-err-later : goal.returns-in-err-later
-returns-in-err-later g c =
+pub returns-in_err-later : goal.returns-in_err-later
+returns-in_err-later g c =
     let below = c.args.below.now in
     let cards = g.F.Family.slots below in
-    simp c.from-residual.ensures
+    simp c.from_residual.ensures
     (moved_none c.args.delay (g.F.Family.before below) (cards c.args.i) (cards c.args.j) c.args.t c.args.end _ _ (omega arith) (omega arith)
-    c.in-err-later.ensures)
+    c.in_err-later.ensures)
 
 pub returns : goal.returns
 returns g c =
     let below = c.args.below.now in
     let cards = g.F.Family.slots below in
     moved_some c.args.delay (g.F.Family.before below) (cards c.args.i) (cards c.args.j) c.args.t c.args.end _ _ (omega arith) (omega arith)
-    c.in-ok-later.later c.in-ok-later.ensures
+    c.in_ok-later.later c.in_ok-later.ensures

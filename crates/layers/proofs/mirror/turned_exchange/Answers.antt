@@ -5,5 +5,5 @@ pub returns : goal.returns
 returns g c =
     let below = c.args.below.now in
     let cards = g.F.Family.slots below in
-    exchange_turned (g.F.Family.before below) (cards c.args.i) (cards c.args.j) c.args.t c.args.end c.next-exchange.result
-    c.next-exchange.ensures
+    exchange_turned (g.F.Family.before below) (cards c.args.i) (cards c.args.j) c.args.t c.args.end c.next_exchange.result
+    c.next_exchange.ensures

@@ -15,53 +15,53 @@ drift_is step slow = kept step step refl (small_fits _ (omega arith))
 
 pub returns-then-y-reach-2 : goal.returns-then-y-reach-2
 returns-then-y-reach-2 c =
-    leaves c.args.y c.args.step c.args.reach c.requires.rises c.args.from c.args.end _ _ c.next-crossing.result
+    leaves c.args.y c.args.step c.args.reach c.requires.rises c.args.from c.args.end _ _ c.next_crossing.result
     (difference_kept c.from-reach.result c.args.y (pos c.args.reach) c.args.y c.from-reach.ensures refl (omega arith) (omega arith))
     (opposite_kept c.args.step c.args.step refl (omega arith))
     (omega (arith, ints))
-    c.next-crossing.ensures
+    c.next_crossing.ensures
 
-pub returns-in-err-u : goal.returns-in-err-u
-returns-in-err-u c =
-    rw c.from-residual.ensures
+pub returns-in_err-u : goal.returns-in_err-u
+returns-in_err-u c =
+    rw c.from_residual.ensures
     (stays_below c.args.y c.args.step c.args.reach c.requires.rises c.args.from c.args.end _ _
     (gap_is c.args.y c.from-reach.result c.args.reach c.from-reach.ensures c.requires.near (omega arith))
     (drift_is c.args.step c.requires.slow)
     (omega (arith, ints))
-    c.in-err-u.ensures)
+    c.in_err-u.ensures)
 
-pub overflow-mul-step : goal.overflow-mul-step
-overflow-mul-step c =
+pub overflow_mul-step : goal.overflow_mul-step
+overflow_mul-step c =
     slope_gain_fits c.args.y c.args.step c.from.result c.args.y c.args.step _ refl refl c.from.ensures
-    c.requires.near (omega arith) (omega (arith, c.in-ok-u.ensures.1))
+    c.requires.near (omega arith) (omega (arith, c.in_ok-u.ensures.1))
 
-pub overflow-add-y-2 : goal.overflow-add-y-2
-overflow-add-y-2 c =
+pub overflow_add-y-2 : goal.overflow_add-y-2
+overflow_add-y-2 c =
     slope_fits c.args.y c.args.step c.from.result c.args.y c.args.step _ refl refl c.from.ensures
-    c.requires.near (omega arith) (omega (arith, c.in-ok-u.ensures.1))
+    c.requires.near (omega arith) (omega (arith, c.in_ok-u.ensures.1))
 
 pub returns-then-y-step : goal.returns-then-y-step
 returns-then-y-step c =
     let there =
     slope_kept c.args.y c.args.step c.from.result c.args.y c.args.step _ refl refl c.from.ensures
-    c.requires.near (omega arith) (omega (arith, c.in-ok-u.ensures.1)) in
+    c.requires.near (omega arith) (omega (arith, c.in_ok-u.ensures.1)) in
     steps_over c.args.y c.args.step c.args.reach c.requires.rises c.args.from c.args.end _ _
     (gap_is c.args.y c.from-reach.result c.args.reach c.from-reach.ensures c.requires.near (omega arith))
     (drift_is c.args.step c.requires.slow)
     (omega (arith, ints))
-    c.in-ok-u.u
-    c.in-ok-u.ensures
+    c.in_ok-u.u
+    c.in_ok-u.ensures
     (omega (arith, ints))
 
 pub returns : goal.returns
 returns c =
     let there =
     slope_kept c.args.y c.args.step c.from.result c.args.y c.args.step _ refl refl c.from.ensures
-    c.requires.near (omega arith) (omega (arith, c.in-ok-u.ensures.1)) in
+    c.requires.near (omega arith) (omega (arith, c.in_ok-u.ensures.1)) in
     enters c.args.y c.args.step c.args.reach c.requires.rises c.args.from c.args.end _ _
     (gap_is c.args.y c.from-reach.result c.args.reach c.from-reach.ensures c.requires.near (omega arith))
     (drift_is c.args.step c.requires.slow)
     (omega (arith, ints))
-    c.in-ok-u.u
-    c.in-ok-u.ensures
+    c.in_ok-u.u
+    c.in_ok-u.ensures
     (omega (arith, ints))

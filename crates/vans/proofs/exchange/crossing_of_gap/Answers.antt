@@ -7,6 +7,6 @@ use Rattle.vans.proofs.exchange.crossing_of_gap.Goals as goal
 
 pub returns : goal.returns
 returns c =
-    first_change_alike _ _ (clamp c.args.t) (clamp c.args.end) c.next-crossing.result
+    first_change_alike _ _ (clamp c.args.t) (clamp c.args.end) c.next_crossing.result
     (λ u _ upto. order_by_gap distance_at c.args.c.now c.args.d.now u _ (omega arith) (c.gap.ensures u))
-    c.next-crossing.ensures
+    c.next_crossing.ensures

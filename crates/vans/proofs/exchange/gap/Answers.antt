@@ -4,12 +4,12 @@ use Rattle.vans.specs.Spread.{start_of, tilt_of, bend_of}
 use Rattle.vans.specs.Distances.{gap_is, start_size, tilt_size, bend_size}
 use Rattle.vans.proofs.exchange.gap.Goals as goal
 
-pub overflow-sub-result-3 : goal.overflow-sub-result-3
-overflow-sub-result-3 c =
+pub overflow_sub-result-3 : goal.overflow_sub-result-3
+overflow_sub-result-3 c =
     difference_fits c.bend.result c.bend-2.result (omega (arith, c.bend.ensures.bound)) (omega (arith, c.bend-2.ensures.bound))
 
-pub invariant-of-result : goal.invariant-of-result
-invariant-of-result c = (
+pub invariant_of-result : goal.invariant_of-result
+invariant_of-result c = (
   (
     omega (arith, difference_size c.start.result c.start-2.result 20000000000 c.start.ensures.bound c.start-2.ensures.bound (omega arith)),
     omega (arith, difference_size c.tilt.result c.tilt-2.result 200000000 c.tilt.ensures.bound c.tilt-2.ensures.bound (omega arith)),

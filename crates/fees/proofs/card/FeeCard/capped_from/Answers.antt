@@ -11,4 +11,4 @@ returns c =
     let gap_is : gap ≡ pos card.opening -ℤ pos card.cap = omega (arith, ints) in
     let drift_is : drift ≡ pos card.rate = omega (arith, ints) in
     let under : gap <ℤ pos 0 = omega (arith, ints) in
-    first_capped card gap drift c.next-crossing.result gap_is drift_is under c.next-crossing.ensures c.unwrap-or.result c.unwrap-or.ensures
+    first_capped card gap drift c.next_crossing.result gap_is drift_is under c.next_crossing.ensures c.unwrap_or.result c.unwrap_or.ensures

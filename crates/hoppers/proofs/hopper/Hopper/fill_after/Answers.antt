@@ -11,5 +11,5 @@ returns c =
     let small = fill_size h c.args.minutes c.requires in
     let fill_is : to_z w32 h.fill ≡ pos h.fill = omega (arith, ints) in
     let rate-is : to_z w32 (of_z w32 h.rate) ≡ h.rate = omega (arith, ints) in
-    let is : to_z w64 (of_z w64 c.line-at.result) ≡ fill_at h c.args.minutes = kept c.line-at.result (fill_at h c.args.minutes) (cc c.line-at.ensures) (omega (arith, ints)) in
+    let is : to_z w64 (of_z w64 c.line_at.result) ≡ fill_at h c.args.minutes = kept c.line_at.result (fill_at h c.args.minutes) (cc c.line_at.ensures) (omega (arith, ints)) in
     record { value = is; bound = rw is small }

@@ -4,14 +4,14 @@ use Rattle.crossing.proofs.Kept.{small_fits, kept, fits_by}
 use Rattle.parabola.proofs.Sizes.{first_fits, second_fits, discriminant_is, discriminant_size}
 use Rattle.parabola.proofs.curve.Parabola.discriminant.Goals as goal
 
-pub overflow-mul-result : goal.overflow-mul-result
-overflow-mul-result c = first_fits c.args.self.now
+pub overflow_mul-result : goal.overflow_mul-result
+overflow_mul-result c = first_fits c.args.self.now
 
-pub overflow-mul-result-2 : goal.overflow-mul-result-2
-overflow-mul-result-2 c = second_fits c.args.self.now
+pub overflow_mul-result-2 : goal.overflow_mul-result-2
+overflow_mul-result-2 c = second_fits c.args.self.now
 
-pub overflow-sub-result : goal.overflow-sub-result
-overflow-sub-result c =
+pub overflow_sub-result : goal.overflow_sub-result
+overflow_sub-result c =
     let p = c.args.self.now in
     fits_by _ (discriminant_of p) (discriminant_is p) (small_fits _ (omega (arith, discriminant_size p)))
 

@@ -9,4 +9,4 @@ returns c =
     let gap_is : to_z w64 (of_z w64 (to_z w64 (of_z w64 p.bend) +ℤ to_z w64 (of_z w64 (pos 2 *ℤ to_z w64 (of_z w64 p.tilt))))) ≡ p.bend +ℤ (p.tilt +ℤ p.tilt) =
     omega (arith, ints, p.within) in
     let drift_is : to_z w64 (of_z w64 (pos 2 *ℤ to_z w64 (of_z w64 p.bend))) ≡ p.bend +ℤ p.bend = omega (arith, ints, p.within) in
-    turns_by_steps p _ _ c.next-crossing.result gap_is drift_is c.next-crossing.ensures
+    turns_by_steps p _ _ c.next_crossing.result gap_is drift_is c.next_crossing.ensures

@@ -14,6 +14,6 @@ inner-requires c =
     let vy : to_z w32 (of_z w32 c.from-2.result) ≡ v.vy = omega (arith, ints) in
     let x-size = coordinate_size v.px v.vx c.args.minutes v.within.0 v.within.2 c.requires in
     let y-size = coordinate_size v.py v.vy c.args.minutes v.within.1 v.within.3 c.requires in
-    let x-is = kept c.line-at-x.result (line v.px v.vx c.args.minutes) (cc c.line-at-x.ensures) (small_fits _ (omega (arith, x-size))) in
-    let y-is = kept c.line-at-y.result (line v.py v.vy c.args.minutes) (cc c.line-at-y.ensures) (small_fits _ (omega (arith, y-size))) in
+    let x-is = kept c.line_at-x.result (line v.px v.vx c.args.minutes) (cc c.line_at-x.ensures) (small_fits _ (omega (arith, x-size))) in
+    let y-is = kept c.line_at-y.result (line v.py v.vy c.args.minutes) (cc c.line_at-y.ensures) (small_fits _ (omega (arith, y-size))) in
     record { ax = rw x-is x-size; ay = rw y-is y-size; bx = rw x-is x-size; by = rw y-is y-size }
