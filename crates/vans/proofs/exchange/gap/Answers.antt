@@ -9,14 +9,13 @@ overflow_sub-result-3 c =
     difference_fits c.bend.result c.bend-2.result (omega (arith, c.bend.ensures.bound)) (omega (arith, c.bend-2.ensures.bound))
 
 pub invariant_of-result : goal.invariant_of-result
-invariant_of-result c = (
-  (
+invariant_of-result c = record {
+  within = (
     omega (arith, difference_size c.start.result c.start-2.result 20000000000 c.start.ensures.bound c.start-2.ensures.bound (omega arith)),
     omega (arith, difference_size c.tilt.result c.tilt-2.result 200000000 c.tilt.ensures.bound c.tilt-2.ensures.bound (omega arith)),
     omega (arith, difference_size c.bend.result c.bend-2.result 2000000 c.bend.ensures.bound c.bend-2.ensures.bound (omega arith)),
-  ),
-  tt,
-)
+  );
+}
 
 pub returns : goal.returns
 returns c =
