@@ -12,7 +12,6 @@ ghost use Rattle.hoppers.specs.Fill.{fill_at};
 ghost use Rattle.vans.specs.Distance.{distance_at};
 
 use adapter::Adapter;
-use cards::ExchangingCard;
 use family::{Family, TurningFamily};
 use hoppers::Hoppers;
 use vans::Vans;

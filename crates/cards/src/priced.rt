@@ -4,7 +4,7 @@ ghost use Rattle.std.proofs.Common.{rules};
 use crate::by_amount::ByAmount;
 use crate::card::{ExchangingCard, PricedCard};
 use crate::run::run;
-use family::{Family, PricedFamily, Refusal};
+use family::{PricedFamily, Refusal};
 use slots::Places;
 
 impl<C: ExchangingCard, P: Places<Card = C>> PricedFamily for ByAmount<P> {

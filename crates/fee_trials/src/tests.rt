@@ -1,9 +1,9 @@
 // Two fee cards to try things on, and fee cards drawn at random.
 use adapter::Adapter;
 use cards::ByAmount;
-use family::{Family, Refusal, TurningFamily};
+use family::{Family, Refusal};
 use fees::{FeeCard, FeeCards};
-use slots::{Places, Slots};
+use slots::Slots;
 
 mod every_coin;
 mod exchanges;

@@ -1,7 +1,7 @@
 -- Stretches that are told one after the other.
 use Rattle.std.proofs.Common.{◌≡◌, ℕ, ◌+◌, ◌-◌, ◌<◌, ◌≤◌, List, [], ◌∷◌, ◌++◌, is_some, Some, None, sym, refl, ap, ◌∙◌, subst, arith}
 use Rattle.std.proofs.lemmas.Bool.{false≢true}
-use Rattle.std.specs.List.{AllByRecursion as All}
+use Rattle.std.specs.List.{AllByRecursion}
 use Rattle.family.specs.Order.{Order}
 use Rattle.family.specs.Slots.{Cards}
 use Rattle.family.specs.Amounts.{Amount}
@@ -22,7 +22,7 @@ one_stretch_more lo hi (r ∷ rs) s (is, rest) next = (is, one_stretch_more (r.l
 
 -- where no card stands, nothing leads, and so nothing was told
 pub none_told : {C : Type 0} (before : Order C) (cards : Cards C) (amount : Amount C) (ss : List Stretch)
-    → ((k : ℕ) → k < 256 → cards k ≡ None) → All (Leading before cards amount) ss → ss ≡ []
+    → ((k : ℕ) → k < 256 → cards k ≡ None) → AllByRecursion (Leading before cards amount) ss → ss ≡ []
 none_told before cards amount [] none _ = refl
 none_told before cards amount (s ∷ ss) none (((forward, _, leads, _), _), _) =
     let lead = leads s.first (omega arith) forward in

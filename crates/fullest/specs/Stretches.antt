@@ -1,6 +1,6 @@
 -- The chart of a family: who leads over which times.
 use Rattle.std.specs.Prelude.{◌≡◌, ℕ, ◌+◌, ◌<◌, ◌≤◌, min, ◌⊎◌, List, [], ◌∷◌, Some, None, Option}
-use Rattle.std.specs.List.{AllByRecursion as All}
+use Rattle.std.specs.List.{AllByRecursion}
 use Rattle.family.specs.Order.{last_time, Order}
 use Rattle.family.specs.Slots.{Cards}
 use Rattle.family.specs.Amounts.{Amount, amount_of}
@@ -36,4 +36,4 @@ module _ {C : Type 0} (before : Order C) (cards : Cards C) (amount : Amount C) w
 
   -- the longest stretches, one after the other, from 0 to the last time; none where no card stands
   abbrev pub Chart : List Stretch → Type 0
-  Chart ss = ((ss ≡ []) × ((k : ℕ) → k < 256 → cards k ≡ None)) ⊎ (Following 0 ss (last_time + 1) × All Leading ss)
+  Chart ss = ((ss ≡ []) × ((k : ℕ) → k < 256 → cards k ≡ None)) ⊎ (Following 0 ss (last_time + 1) × AllByRecursion Leading ss)

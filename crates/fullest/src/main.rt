@@ -8,7 +8,7 @@ use hoppers::{Hopper, Hoppers};
 use layers::Mirror;
 use reading::Attempt;
 use sample::SAMPLE;
-use slots::{Places, Slots};
+use slots::Slots;
 use std::fmt;
 use stretch::Stretch;
 

@@ -1,11 +1,11 @@
 // Hoppers and fee cards to lay layers over, and tables to hold any family to.
 use adapter::Adapter;
-use cards::{ByAmount, ExchangingCard};
-use family::{Family, PricedFamily, Refusal, TurningFamily};
+use cards::ByAmount;
+use family::{Family, PricedFamily, Refusal};
 use fees::{FeeCard, FeeCards};
 use hoppers::{Hopper, Hoppers};
 use layers::LateStart;
-use slots::{Places, Slots};
+use slots::Slots;
 use std::fmt::Debug;
 use std::process::Abort;
 

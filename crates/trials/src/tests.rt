@@ -2,7 +2,7 @@
 use cards::ByAmount;
 use family::{Family, Refusal};
 use hoppers::{Hopper, Hoppers};
-use slots::{Places, Slots};
+use slots::Slots;
 
 mod exchanges;
 mod limits;

@@ -1,8 +1,8 @@
 // Two vans to try things on.
 use adapter::Adapter;
 use cards::ByAmount;
-use family::{Family, Refusal, TurningFamily};
-use slots::{Places, Slots};
+use family::{Family, Refusal};
+use slots::Slots;
 use vans::{Van, Vans};
 
 mod exchanges;

@@ -1,6 +1,6 @@
 // Runs of amounts of fee cards, through the adapter.
 use super::{C, D, pair};
-use family::{PricedFamily, Refusal, TurningFamily};
+use family::{PricedFamily, Refusal};
 use std::process::Abort;
 use std::test::Fail;
 

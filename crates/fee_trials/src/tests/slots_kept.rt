@@ -1,8 +1,7 @@
 // Put, lift and card of fee cards through the adapter.
 use super::{C, D, fee_card, pair};
-use family::{Family, Refusal, TurningFamily};
+use family::{Family, Refusal};
 use fees::FeeCard;
-use slots::Places;
 use std::process::Abort;
 use std::test::Fail;
 

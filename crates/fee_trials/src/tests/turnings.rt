@@ -4,7 +4,6 @@ use adapter::Adapter;
 use cards::TurningCard;
 use family::{Refusal, TurningFamily};
 use fees::FeeCard;
-use slots::Places;
 use std::process::Abort;
 use std::test::Fail;
 

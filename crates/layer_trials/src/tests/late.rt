@@ -1,6 +1,6 @@
 // Late starts: what is told of a family is what is told below some time later.
 use super::{ALL, Line, Table, both_told, hoppers, sample, tells_late};
-use family::{PricedFamily, TurningFamily};
+use family::PricedFamily;
 use layers::LateStart;
 use std::process::Abort;
 use std::test::Fail;

@@ -1,7 +1,6 @@
 // Piles of three layers over the sample and over hoppers.
 use super::{ALL, Line, UNTOUCHED, both_told, hopper, hoppers, kept, sample};
-use cards::ExchangingCard;
-use family::{Family, PricedFamily, Refusal, TurningFamily};
+use family::{Family, PricedFamily, Refusal};
 use fees::FeeCard;
 use hoppers::Hoppers;
 use layers::{

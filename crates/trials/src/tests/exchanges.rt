@@ -1,6 +1,5 @@
 // When two hoppers trade places, by hand and by looking at every minute.
 use super::{Line, pair};
-use cards::{ExchangingCard, PricedCard};
 use family::Family;
 use hoppers::Hoppers;
 use std::process::Abort;

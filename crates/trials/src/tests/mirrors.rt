@@ -1,10 +1,8 @@
 // The mirror of hoppers, in which the fullest comes first.
 use super::{Line, pair};
-use cards::{ExchangingCard, PricedCard};
 use family::{Family, PricedFamily, Refusal};
 use hoppers::Hopper;
 use layers::Mirror;
-use slots::Places;
 use std::test::Fail;
 
 #[test]

@@ -2,7 +2,6 @@
 use super::{Line, hopper, pair};
 use family::{Family, Refusal};
 use hoppers::Hopper;
-use slots::Places;
 use std::test::Fail;
 
 const C: Line = Line(500, 10);

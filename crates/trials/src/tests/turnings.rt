@@ -1,9 +1,7 @@
 // Hoppers as a turning family.
 use super::{Line, hopper, pair};
-use cards::{PricedCard, TurningCard};
 use family::{Refusal, TurningFamily};
 use hoppers::Hopper;
-use slots::Places;
 use std::process::Abort;
 use std::test::Fail;
 

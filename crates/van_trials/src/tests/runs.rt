@@ -1,8 +1,6 @@
 // Runs of amounts of vans, and what the slots keep, by formula and through the adapter.
 use super::{Path, adapted, pair, van};
-use cards::PricedCard;
-use family::{Family, PricedFamily, Refusal, TurningFamily};
-use slots::Places;
+use family::{Family, PricedFamily, Refusal};
 use std::process::Abort;
 use std::test::Fail;
 use vans::Van;
