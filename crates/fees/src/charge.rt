@@ -2,7 +2,7 @@
 ghost use Rattle.std.specs.Prelude.{◌≡◌, ◌≤◌};
 ghost use Rattle.fees.specs.Charge.{charge, charge_at};
 ghost use Rattle.fees.specs.Charges.{charges_few, charges_turn};
-ghost use Rattle.std.proofs.Common.{rules, arith};
+ghost use Rattle.std.proofs.Common.{rules};
 
 use crate::card::FeeCard;
 use cards::PricedCard;
@@ -13,11 +13,11 @@ impl PricedCard for FeeCard {
 
     ghost swaps = { 2 };
 
-    ghost sized = { first_of (Prim.search rules, Prim.grind (arith, Self.row.coded.inj)) };
+    ghost sized = { Prim.search rules };
 
     ghost few = { charges_few };
 
-    ghost bounded = { first_of (Prim.search rules, Prim.grind (arith, Self.row.coded.inj)) };
+    ghost bounded = { Prim.search rules };
 
     ghost turns = { charges_turn };
 

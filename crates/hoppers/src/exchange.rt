@@ -4,7 +4,7 @@ ghost use Rattle.family.specs.Order.{fact, FirstChange};
 ghost use Rattle.family.specs.Amounts.{by_amount, TurnsAt};
 ghost use Rattle.hoppers.specs.Fill.{fill_at};
 ghost use Rattle.hoppers.specs.Fills.{fills_sized, fills_few, fills_turn};
-ghost use Rattle.std.proofs.Common.{rules, arith};
+ghost use Rattle.std.proofs.Common.{rules};
 
 use crate::hopper::Hopper;
 use cards::{ExchangingCard, PricedCard, TurningCard};
@@ -20,7 +20,7 @@ impl PricedCard for Hopper {
 
     ghost few = { fills_few };
 
-    ghost bounded = { first_of (Prim.search rules, Prim.grind (arith, Self.row.coded.inj)) };
+    ghost bounded = { Prim.search rules };
 
     ghost turns = { fills_turn };
 

@@ -22,12 +22,12 @@ module _ (a b : ℤ) (small_a : unsigned_abs a ≤ 1000100000) (small_b : unsign
   product_read : read (read a *ℤ read b) ≡ a *ℤ b
   product_read = kept _ (a *ℤ b) product_is (small_fits _ (omega (arith, product_size)))
 
-module _ (ax ay bx by : ℤ) (small_ax : unsigned_abs ax ≤ 1000100000) (small_ay : unsigned_abs ay ≤ 1000100000) (small_bx : unsigned_abs bx ≤ 1000100000) (Small-by : unsigned_abs by ≤ 1000100000) where
+module _ (ax ay bx by : ℤ) (small_ax : unsigned_abs ax ≤ 1000100000) (small_ay : unsigned_abs ay ≤ 1000100000) (small_bx : unsigned_abs bx ≤ 1000100000) (small_by : unsigned_abs by ≤ 1000100000) where
   sum_is : read (read ax *ℤ read bx) +ℤ read (read ay *ℤ read by) ≡ ax *ℤ bx +ℤ ay *ℤ by
-  sum_is = rw (product_read ax bx small_ax small_bx, product_read ay by small_ay Small-by)
+  sum_is = rw (product_read ax bx small_ax small_bx, product_read ay by small_ay small_by)
 
   sum_small : FitsSigned w64 (ax *ℤ bx +ℤ ay *ℤ by)
-  sum_small = small_fits _ (omega (arith, ints, product_size ax bx small_ax small_bx, product_size ay by small_ay Small-by))
+  sum_small = small_fits _ (omega (arith, ints, product_size ax bx small_ax small_bx, product_size ay by small_ay small_by))
 
   pub inner_fits : FitsSigned w64 (read (read ax *ℤ read bx) +ℤ read (read ay *ℤ read by))
   inner_fits = fits_by _ (ax *ℤ bx +ℤ ay *ℤ by) sum_is sum_small

@@ -9,7 +9,7 @@ ghost use Rattle.parabola.specs.Height.{height_of};
 ghost use Rattle.vans.specs.Distance.{distance_at};
 ghost use Rattle.vans.specs.Spread.{start_of, tilt_of, bend_of};
 ghost use Rattle.vans.specs.Distances.{distances_sized, distances_few, distances_turn};
-ghost use Rattle.std.proofs.Common.{rules, arith};
+ghost use Rattle.std.proofs.Common.{rules};
 
 use crate::van::Van;
 use cards::{ExchangingCard, PricedCard, TurningCard};
@@ -26,7 +26,7 @@ impl PricedCard for Van {
 
     ghost few = { distances_few };
 
-    ghost bounded = { first_of (Prim.search rules, Prim.grind (arith, Self.row.coded.inj)) };
+    ghost bounded = { Prim.search rules };
 
     ghost turns = { distances_turn };
 
