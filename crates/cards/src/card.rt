@@ -24,7 +24,7 @@ pub trait PricedCard: Copy {
 
     ghost bounded: { (1 ≤ swaps) × (swaps ≤ 2) };
 
-    // Stands here and not with the turning time that is told, since a law can cite only its own trait.
+    // Two cards have a turning time. Which one is told is left open.
     ghost turns: { Turning amount };
 }
 

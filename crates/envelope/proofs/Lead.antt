@@ -1,7 +1,7 @@
 -- There is one leader: it exists, and no other slot is one.
-use Rattle.std.proofs.Common.{◌≡◌, ℕ, zero, suc, ◌<◌, ◌≤◌, Bool, true, false, cond, ◌&&◌, ◌||◌, ◌≢◌, ◌⊎◌, is_some, Some, None, Option, sym, refl, ap, ◌∙◌, subst, inl, inr, ⊎_elim, arith}
+use Rattle.std.proofs.Common.{◌≡◌, ℕ, zero, suc, ◌<◌, ◌≤◌, Bool, true, false, cond, ◌&&◌, ◌≢◌, is_some, Some, None, Option, sym, refl, ap, subst, inl, inr, ⊎_elim, arith}
 use Rattle.std.proofs.lemmas.Bool.{both_ways, false≢true, true≢false, cases_Bool, cases_eq, cases_lt, and_parts, and_from, or_cases}
-use Rattle.family.specs.Order.{Order, TotalPreorder, fact}
+use Rattle.family.specs.Order.{Order, TotalPreorder}
 use Rattle.family.specs.Slots.{Cards, slot_before, holding_before}
 use Rattle.envelope.specs.Lead.{SlotSet, Stands, Beats, Leader, succeeding, going_on, leader_below, leader_of}
 

@@ -89,9 +89,9 @@ pub trait Family {
     ghost bounded: { (f : Self) → (1 ≤ swaps f) × (swaps f ≤ 2) };
 }
 
-// A family whose order comes from amounts: c is at or before d exactly when c's amount is no larger. What
-// never changes is the order; an amount may depend on the family's value.
-// A law cannot speak of the order of the trait above, so the two amount calls promise that (`orders`).
+// A family whose order comes from amounts: c is at or before d exactly when c's amount is no larger, which
+// the two amount calls promise (`orders`). What never changes is the order; an amount may depend on the
+// family's value.
 pub trait PricedFamily: Family {
     // What a card comes to at a time.
     ghost amount: { Self → Amount Self.Card };

@@ -1,5 +1,5 @@
 -- Until when a leader beats another slot.
-use Rattle.std.proofs.Common.{◌≡◌, ℕ, ◌+◌, ◌<◌, ◌≤◌, Bool, true, false, ◌||◌, ◌≢◌, ◌⊎◌, is_some, Some, None, Option, refl, inl, inr, ⊎_elim, arith, below_more}
+use Rattle.std.proofs.Common.{◌≡◌, ℕ, ◌+◌, ◌<◌, ◌≤◌, Bool, true, false, ◌||◌, is_some, Some, None, Option, refl, inl, inr, ⊎_elim, arith, below_more}
 use Rattle.std.proofs.lemmas.Bool.{both_ways, false≢true, true≢false, cases_Bool, cases_eq}
 use Rattle.family.specs.Order.{Order, TotalPreorder, FirstChange, fact}
 use Rattle.family.specs.Slots.{Cards, slot_before, holding_before}

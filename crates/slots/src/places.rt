@@ -1,5 +1,4 @@
-// Places: what a family's table of cards does. A family is generic in its table, since a law of a
-// trait is not yet proved for a type that has an array over a type parameter in its header.
+// Places: what a family's table of cards does. A family is generic in its table.
 ghost use Rattle.std.specs.Prelude.{◌≡◌, OnErr};
 ghost use Rattle.family.specs.Slots.{Cards, PutAnswer, LiftAnswer};
 ghost use Rattle.slots.specs.Held.{cards_of};

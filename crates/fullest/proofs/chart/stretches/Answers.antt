@@ -1,4 +1,4 @@
-use Rattle.std.proofs.Common.{◌≡◌, ◌+◌, [], ◌∷◌, ◌++◌, vec_items, inl, inr, arith}
+use Rattle.std.proofs.Common.{◌≡◌, [], ◌∷◌, ◌++◌, vec_items, inl, inr, arith}
 use Rattle.std.proofs.ByRecursion.{All-push}
 use Rattle.fullest.specs.Stretches.{Leading}
 use Rattle.fullest.proofs.Told.{one_stretch_more, none_told}
