@@ -8,9 +8,9 @@
 
 mod by_amount;
 mod card;
+mod ordered;
 mod priced;
 mod run;
-mod turning;
 
 pub use by_amount::ByAmount;
 pub use card::{ExchangingCard, PricedCard, TurningCard};

@@ -14,9 +14,7 @@ pub(crate) fn run<C: PricedCard>(
     ensures { RunAnswer C.PricedCard.amount held first cells.old result cells.new }
 {
     run_in_range(first, cells)?;
-    let Some(card) = held else {
-        return Err(Refusal::SlotEmpty);
-    };
+    let card = held.ok_or(Refusal::SlotEmpty)?;
     write_cells(&card, first, cells);
     Ok(())
 }
@@ -26,9 +24,7 @@ fn write_cells<C: PricedCard>(card: &C, first: u32, cells: &mut [i64])
     requires { first + length cells.old ≤ 1000001 }
     ensures { CellsHold C.PricedCard.amount (Some card.now) first cells.new }
 {
-    let mut t = first;
-    for cell in cells.iter_mut() {
-        *cell = card.amount_at(t);
-        t += 1;
+    for (k, cell) in cells.iter_mut().enumerate() {
+        *cell = card.amount_at(first + k as u32);
     }
 }

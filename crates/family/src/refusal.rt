@@ -1,28 +1,31 @@
 // Why a call is turned down, and by which number. A refused call changes nothing. The numbers 5 to 8 are
 // faults of a day file and not of a call.
-ghost use Rattle.std.specs.Prelude.{◌≡◌};
+ghost use Rattle.std.specs.Prelude.{◌≡◌, Some};
 ghost use Rattle.family.specs.Refusals.{number_of, reason_of};
+
+use std::error::Error;
+use std::fmt;
 
 #[derive(Clone, Copy, PartialEq, Eq, Debug)]
 pub enum Refusal {
     // A time or an end of a range is above 1,000,000, or a run of amounts would pass it.
-    PastEnd,
+    PastEnd = 1,
     // The first time of a range is above its last.
-    RangeReversed,
+    RangeReversed = 2,
     // A card is outside its limits.
-    OutsideLimits,
+    OutsideLimits = 3,
     // A place for a listing has fewer than 32,768 bytes.
-    ListingTooShort,
+    ListingTooShort = 9,
     // The slot is filled.
-    SlotFilled,
+    SlotFilled = 21,
     // The slot is empty.
-    SlotEmpty,
+    SlotEmpty = 22,
     // The time is below the clock.
-    BeforeClock,
+    BeforeClock = 23,
     // No card stands.
-    NoCardStands,
+    NoCardStands = 24,
     // The place for the answer is too short.
-    PlaceTooShort,
+    PlaceTooShort = 25,
 }
 
 impl Refusal {
@@ -30,18 +33,9 @@ impl Refusal {
     pub fn number(self) -> u8
         ensures { result ≡ number_of self }
     {
-        match self {
-            Refusal::PastEnd => 1,
-            Refusal::RangeReversed => 2,
-            Refusal::OutsideLimits => 3,
-            Refusal::ListingTooShort => 9,
-            Refusal::SlotFilled => 21,
-            Refusal::SlotEmpty => 22,
-            Refusal::BeforeClock => 23,
-            Refusal::NoCardStands => 24,
-            Refusal::PlaceTooShort => 25,
-        }
+        self as u8
     }
+
     // The reason in words.
     pub fn reason(self) -> &'static str
         ensures { result.now ≡ reason_of self }
@@ -59,3 +53,13 @@ impl Refusal {
         }
     }
 }
+
+impl fmt::Display for Refusal {
+    ghost output = { λ r. Some (reason_of r) };
+
+    fn fmt<W: fmt::Write>(&self, f: &mut fmt::Formatter<W>) -> fmt::Result {
+        f.write_str(self.reason())
+    }
+}
+
+impl Error for Refusal {}

@@ -5,5 +5,4 @@
 mod places;
 mod table;
 
-pub use places::Places;
 pub use table::Slots;

@@ -1,0 +1,57 @@
+// Amounts: what the cards in the slots come to at each time.
+ghost use Rattle.std.specs.Prelude.{◌≡◌};
+ghost use Rattle.family.specs.Slots.{slot_before};
+ghost use Rattle.family.specs.Amounts.{Amount, WithinSize, OrderedBy, amount_of, by_amount, RunAnswer, TurnsAt, Turning};
+
+use crate::card_slots::CardSlots;
+use crate::family::Family;
+use crate::refusal::Refusal;
+
+pub trait Priced: CardSlots {
+    // What a card comes to at a time.
+    ghost amount: { Self → Amount Self.Card };
+
+    // The slot's amount at t, or none for an empty slot.
+    fn amount_at(&self, slot: u8, t: u32) -> Option<i64>
+        ensures { result ≡ amount_of (amount self.now) (Self.slots self.now slot) t };
+
+    // A run of amounts: puts the slot's amount at first + k into cell k. Refused, in this order, where
+    // it would pass the last time (1) and for an empty slot (22); a refused run leaves every cell.
+    fn amounts(&self, slot: u8, first: u32, cells: &mut [i64]) -> Result<(), Refusal>
+        ensures { RunAnswer (amount self.now) (Self.slots self.now slot) first cells.old result cells.new };
+
+    ghost sized: { (f : Self) → WithinSize (amount f) };
+
+    // Whether slot i is at or before slot j at t in the order of the amounts, in which an empty slot comes
+    // last.
+    final fn in_order(&self, i: u8, j: u8, t: u32) -> bool
+        ensures { result ≡ slot_before (by_amount (amount self.now)) (Self.slots self.now) i j t }
+    {
+        match (self.amount_at(i, t), self.amount_at(j, t)) {
+            (Some(x), Some(y)) => x <= y,
+            (_, None) => true,
+            (None, Some(_)) => false,
+        }
+    }
+}
+
+// A family whose order comes from its amounts: c is at or before d exactly when c's amount is no larger.
+// What never changes is the order; an amount may depend on the family's value.
+pub trait PricedFamily: Family + Priced {
+    ghost orders: { (f : Self) → OrderedBy (Self.before f) (Self.amount f) };
+}
+
+// Cards of which any two have a known time at which the difference of their amounts may turn: up to it the
+// difference never falls or never rises, and so again from it on. Exchanges can then be found by bisection,
+// with no formula for the amounts.
+pub trait TurningFamily: Priced {
+    // A turning time of two cards.
+    fn turning(&self, c: Self::Card, d: Self::Card) -> u32
+        ensures { TurnsAt (Self.amount self.now) c d result };
+
+    // A turning time exists; which one is told is left open.
+    ghost turns: { (f : Self) → Turning (Self.amount f) };
+
+    // Whichever cards are held, a card's amount is the same.
+    ghost amount_stays: { (f g : Self) → Self.alike f g → Self.amount f ≡ Self.amount g };
+}
