@@ -3,27 +3,19 @@ ghost use Rattle.family.specs.Amounts.{by_amount};
 ghost use Rattle.family.proofs.Steady.{few_if_turning};
 ghost use Rattle.std.proofs.Common.{rules};
 
-use crate::halving::{at_or_before, exchange_by_halving};
-use family::{Family, PricedFamily, Refusal, TurningFamily};
+use crate::halving::exchange_by_halving;
+use family::{CardSlots, Family, Priced, PricedFamily, Refusal, TurningFamily};
 
 // The priced family of a turning family, with the cards that are in it.
 #[derive(Drop)]
 pub struct Adapter<T>(pub T);
 
-impl<T: TurningFamily> Family for Adapter<T> {
+impl<T: CardSlots> CardSlots for Adapter<T> {
     type Card = T::Card;
 
-    ghost slots = { λ f. T.TurningFamily.slots f.0 };
+    ghost slots = { λ f. T.slots f.0 };
 
-    ghost before = { λ f. by_amount (T.TurningFamily.amount f.0) };
-
-    ghost swaps = { λ _. 2 };
-
-    ghost ordered = { Prim.search rules };
-
-    ghost few = { λ f. few_if_turning (T.TurningFamily.amount f.0) (T.TurningFamily.turns f.0) };
-
-    ghost bounded = { Prim.search rules };
+    ghost alike = { λ f g. T.alike f.0 g.0 };
 
     fn put(&mut self, slot: u8, card: T::Card) -> Result<(), Refusal> {
         self.0.put(slot, card)
@@ -36,9 +28,25 @@ impl<T: TurningFamily> Family for Adapter<T> {
     fn card(&self, slot: u8) -> Option<T::Card> {
         self.0.card(slot)
     }
+}
+
+impl<T: TurningFamily> Family for Adapter<T> {
+    ghost before = { λ f. by_amount (T.amount f.0) };
+
+    ghost swaps = { λ _. 2 };
+
+    ghost ordered = { Prim.search rules };
+
+    ghost few = { λ f. few_if_turning (T.amount f.0) (T.turns f.0) };
+
+    ghost bounded = { Prim.search rules };
+
+    ghost order_stays = { Prim.search rules };
+
+    ghost bound_stays = { Prim.search rules };
 
     fn compare(&self, i: u8, j: u8, t: u32) -> bool {
-        at_or_before(&self.0, i, j, t)
+        self.0.in_order(i, j, t)
     }
 
     fn next_exchange(&self, i: u8, j: u8, t: u32, end: u32) -> Option<u32> {
@@ -50,8 +58,8 @@ impl<T: TurningFamily> Family for Adapter<T> {
     }
 }
 
-impl<T: TurningFamily> PricedFamily for Adapter<T> {
-    ghost amount = { λ f. T.TurningFamily.amount f.0 };
+impl<T: Priced> Priced for Adapter<T> {
+    ghost amount = { λ f. T.amount f.0 };
 
     ghost sized = { Prim.search rules };
 
@@ -62,4 +70,8 @@ impl<T: TurningFamily> PricedFamily for Adapter<T> {
     fn amounts(&self, slot: u8, first: u32, cells: &mut [i64]) -> Result<(), Refusal> {
         self.0.amounts(slot, first, cells)
     }
+}
+
+impl<T: TurningFamily> PricedFamily for Adapter<T> {
+    ghost orders = { Prim.search rules };
 }

@@ -3,18 +3,7 @@ ghost use Rattle.std.specs.Prelude.{◌≡◌, ◌<◌, ◌≤◌, not, Some};
 ghost use Rattle.family.specs.Order.{last_time, FirstChange, NextChange};
 ghost use Rattle.adapter.specs.Parts.{no_larger, ChangesOnce};
 
-use family::{LAST_TIME, TurningFamily};
-
-// Whether slot i is at or before slot j at t: two amounts are looked at.
-pub(crate) fn at_or_before<T: TurningFamily>(below: &T, i: u8, j: u8, t: u32) -> bool
-    ensures { result ≡ no_larger (T.TurningFamily.amount below.now) (T.TurningFamily.slots below.now) i j t }
-{
-    match (below.amount_at(i, t), below.amount_at(j, t)) {
-        (Some(x), Some(y)) => x <= y,
-        (_, None) => true,
-        (None, Some(_)) => false,
-    }
-}
+use family::{CardSlots, LAST_TIME, Priced, TurningFamily};
 
 // The next exchange of two slots.
 pub(crate) fn exchange_by_halving<T: TurningFamily>(
@@ -24,7 +13,7 @@ pub(crate) fn exchange_by_halving<T: TurningFamily>(
     t: u32,
     end: u32,
 ) -> Option<u32>
-    ensures { NextChange (no_larger (T.TurningFamily.amount below.now) (T.TurningFamily.slots below.now) i j) t end result }
+    ensures { NextChange (no_larger (T.amount below.now) (T.slots below.now) i j) t end result }
 {
     let c = below.card(i)?;
     let d = below.card(j)?;
@@ -44,9 +33,9 @@ fn on_both_sides<T: TurningFamily>(
 ) -> Option<u32>
     requires ends { end ≤ last_time }
     requires turns { turning ≤ last_time }
-    requires before { ChangesOnce (no_larger (T.TurningFamily.amount below.now) (T.TurningFamily.slots below.now) i j) 0 turning }
-    requires after { ChangesOnce (no_larger (T.TurningFamily.amount below.now) (T.TurningFamily.slots below.now) i j) turning last_time }
-    ensures { FirstChange (no_larger (T.TurningFamily.amount below.now) (T.TurningFamily.slots below.now) i j) from end result }
+    requires before { ChangesOnce (no_larger (T.amount below.now) (T.slots below.now) i j) 0 turning }
+    requires after { ChangesOnce (no_larger (T.amount below.now) (T.slots below.now) i j) turning last_time }
+    ensures { FirstChange (no_larger (T.amount below.now) (T.slots below.now) i j) from end result }
 {
     if end <= from {
         return None;
@@ -62,11 +51,11 @@ fn on_both_sides<T: TurningFamily>(
 // the same at both.
 fn on_one_side<T: TurningFamily>(below: &T, i: u8, j: u8, from: u32, end: u32) -> Option<u32>
     requires forth { from ≤ end }
-    requires once { ChangesOnce (no_larger (T.TurningFamily.amount below.now) (T.TurningFamily.slots below.now) i j) from end }
-    ensures { FirstChange (no_larger (T.TurningFamily.amount below.now) (T.TurningFamily.slots below.now) i j) from end result }
+    requires once { ChangesOnce (no_larger (T.amount below.now) (T.slots below.now) i j) from end }
+    ensures { FirstChange (no_larger (T.amount below.now) (T.slots below.now) i j) from end result }
 {
-    let held = at_or_before(below, i, j, from);
-    if at_or_before(below, i, j, end) == held {
+    let held = below.in_order(i, j, from);
+    if below.in_order(i, j, end) == held {
         return None;
     }
     Some(halve(below, i, j, from, end, held))
@@ -76,16 +65,16 @@ fn on_one_side<T: TurningFamily>(below: &T, i: u8, j: u8, from: u32, end: u32) -
 // `high` and changes only once between them.
 fn halve<T: TurningFamily>(below: &T, i: u8, j: u8, low: u32, high: u32, held: bool) -> u32
     requires apart { low < high }
-    requires start { no_larger (T.TurningFamily.amount below.now) (T.TurningFamily.slots below.now) i j low ≡ held }
-    requires end { no_larger (T.TurningFamily.amount below.now) (T.TurningFamily.slots below.now) i j high ≡ not held }
-    requires once { ChangesOnce (no_larger (T.TurningFamily.amount below.now) (T.TurningFamily.slots below.now) i j) low high }
-    ensures { FirstChange (no_larger (T.TurningFamily.amount below.now) (T.TurningFamily.slots below.now) i j) low high (Some result) }
+    requires start { no_larger (T.amount below.now) (T.slots below.now) i j low ≡ held }
+    requires end { no_larger (T.amount below.now) (T.slots below.now) i j high ≡ not held }
+    requires once { ChangesOnce (no_larger (T.amount below.now) (T.slots below.now) i j) low high }
+    ensures { FirstChange (no_larger (T.amount below.now) (T.slots below.now) i j) low high (Some result) }
 {
     let mut same = low;
     let mut differs = high;
     while differs - same > 1 {
         let middle = same + (differs - same) / 2;
-        if at_or_before(below, i, j, middle) == held {
+        if below.in_order(i, j, middle) == held {
             same = middle;
         } else {
             differs = middle;

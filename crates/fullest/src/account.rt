@@ -20,9 +20,9 @@ pub struct Account<F> {
 impl<F: PricedFamily<Card = Hopper> + Drop> Account<F> {
     // Sets the hoppers up in a family, in order, and charts what stands then.
     pub fn of(heap: Global, mut family: F, readings: &[Reading]) -> Result<Account<F>, AllocError>
-        ensures attempts { IfOk result (λ a. SetUp (F.Family.slots family) readings.now a.attempts.items (F.Family.slots a.family)) }
-        ensures order { IfOk result (λ a. F.Family.before a.family ≡ F.Family.before family) }
-        ensures chart { IfOk result (λ a. Chart (F.Family.before a.family) (F.Family.slots a.family) (F.PricedFamily.amount a.family) a.stretches.items) }
+        ensures attempts { IfOk result (λ a. SetUp (F.slots family) readings.now a.attempts.items (F.slots a.family)) }
+        ensures order { IfOk result (λ a. F.before a.family ≡ F.before family) }
+        ensures chart { IfOk result (λ a. Chart (F.before a.family) (F.slots a.family) (F.amount a.family) a.stretches.items) }
     {
         let attempts = set_up(heap, &mut family, readings)?;
         let stretches = stretches(heap, &family)?;
@@ -40,8 +40,8 @@ fn set_up<F: Family<Card = Hopper>>(
     family: &mut F,
     readings: &[Reading],
 ) -> Result<Vec<Attempt>, AllocError>
-    ensures answers { IfOk result (λ v. SetUp (F.Family.slots family.old) readings.now v.items (F.Family.slots family.new)) }
-    ensures order { F.Family.before family.new ≡ F.Family.before family.old }
+    ensures answers { IfOk result (λ v. SetUp (F.slots family.old) readings.now v.items (F.slots family.new)) }
+    ensures order { F.before family.new ≡ F.before family.old }
 {
     let mut attempts = Vec::new(heap);
     for reading in readings {
@@ -57,8 +57,8 @@ fn set_up<F: Family<Card = Hopper>>(
 // Makes the hopper and puts it into its slot. Refused outside the limits (3), and then where the slot is
 // filled (21); nothing changes then.
 fn place<F: Family<Card = Hopper>>(family: &mut F, reading: Reading) -> Result<(), Refusal>
-    ensures answer { Placing (F.Family.slots family.old) reading result (F.Family.slots family.new) }
-    ensures order { F.Family.before family.new ≡ F.Family.before family.old }
+    ensures answer { Placing (F.slots family.old) reading result (F.slots family.new) }
+    ensures order { F.before family.new ≡ F.before family.old }
 {
     let hopper = Hopper::new(reading.fill, reading.rate, reading.capacity)?;
     family.put(reading.slot, hopper)

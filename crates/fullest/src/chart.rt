@@ -12,7 +12,7 @@ use std::alloc::{AllocError, Global};
 // The chart from 0 to 1,000,000; no stretch where no card stands. An `Err` is want of memory, and tells
 // nothing of the chart.
 pub fn stretches<F: PricedFamily>(heap: Global, family: &F) -> Result<Vec<Stretch>, AllocError>
-    ensures { IfOk result (λ v. Chart (F.Family.before family.now) (F.Family.slots family.now) (F.PricedFamily.amount family.now) v.items) }
+    ensures { IfOk result (λ v. Chart (F.before family.now) (F.slots family.now) (F.amount family.now) v.items) }
 {
     let mut told = Vec::new(heap);
     let mut first = 0;
@@ -29,7 +29,7 @@ pub fn stretches<F: PricedFamily>(heap: Global, family: &F) -> Result<Vec<Stretc
 // The stretch that begins at a time, or none where no card stands.
 fn stretch_from<F: PricedFamily>(family: &F, first: u32) -> Option<Stretch>
     requires { first ≤ 1000000 }
-    ensures { MatchOption result ((k : ℕ) → k < 256 → F.Family.slots family.now k ≡ None) (λ s. (s.first ≡ first) × Leading (F.Family.before family.now) (F.Family.slots family.now) (F.PricedFamily.amount family.now) s) }
+    ensures { MatchOption result ((k : ℕ) → k < 256 → F.slots family.now k ≡ None) (λ s. (s.first ≡ first) × Leading (F.before family.now) (F.slots family.now) (F.amount family.now) s) }
 {
     let slot = leader(family, first)?;
     let amount = family.amount_at(slot, first)?;
@@ -44,8 +44,8 @@ fn stretch_from<F: PricedFamily>(family: &F, first: u32) -> Option<Stretch>
 
 // The last time to which the leader at t leads on.
 fn lead_end<F: Family>(family: &F, leader: u8, t: u32) -> u32
-    requires { (t ≤ 1000000) × (Leader (F.Family.before family.now) (F.Family.slots family.now) t (Some leader)) }
-    ensures { Lasting (λ v. Leader (F.Family.before family.now) (F.Family.slots family.now) v (Some leader)) t result }
+    requires { (t ≤ 1000000) × (Leader (F.before family.now) (F.slots family.now) t (Some leader)) }
+    ensures { Lasting (λ v. Leader (F.before family.now) (F.slots family.now) v (Some leader)) t result }
 {
     match lead_change(family, leader, t) {
         Some(change) => change - 1,
@@ -55,8 +55,8 @@ fn lead_end<F: Family>(family: &F, leader: u8, t: u32) -> u32
 
 // The first time after t at which the leader at t leads no more, or none.
 fn lead_change<F: Family>(family: &F, leader: u8, t: u32) -> Option<u32>
-    requires { (t ≤ 1000000) × (Leader (F.Family.before family.now) (F.Family.slots family.now) t (Some leader)) }
-    ensures { HoldsUntil (λ v. Leader (F.Family.before family.now) (F.Family.slots family.now) v (Some leader)) t result }
+    requires { (t ≤ 1000000) × (Leader (F.before family.now) (F.slots family.now) t (Some leader)) }
+    ensures { HoldsUntil (λ v. Leader (F.before family.now) (F.slots family.now) v (Some leader)) t result }
 {
     let mut change = None;
     for k in 0..=255u8 {
@@ -68,8 +68,8 @@ fn lead_change<F: Family>(family: &F, leader: u8, t: u32) -> Option<u32>
 // The first time after t at which the leader at t does not beat slot k any more, or none. The winner of
 // two slots changes where the fact "the lower one is at or before the higher one" does.
 fn next_challenge<F: Family>(family: &F, leader: u8, k: u8, t: u32) -> Option<u32>
-    requires { (t ≤ 1000000) × (Leader (F.Family.before family.now) (F.Family.slots family.now) t (Some leader)) }
-    ensures { HoldsUntil (λ v. Ahead (F.Family.before family.now) (F.Family.slots family.now) v leader k) t result }
+    requires { (t ≤ 1000000) × (Leader (F.before family.now) (F.slots family.now) t (Some leader)) }
+    ensures { HoldsUntil (λ v. Ahead (F.before family.now) (F.slots family.now) v leader k) t result }
 {
     if k < leader {
         family.next_exchange(k, leader, t, LAST_TIME)

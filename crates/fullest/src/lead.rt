@@ -6,7 +6,7 @@ use family::Family;
 
 // The leader of all slots at t, or none where no card stands. Level cards go to the lowest slot.
 pub fn leader<F: Family>(family: &F, t: u32) -> Option<u8>
-    ensures { Leader (F.Family.before family.now) (F.Family.slots family.now) t result }
+    ensures { Leader (F.before family.now) (F.slots family.now) t result }
 {
     let mut best = None;
     for k in 0..=255u8 {
@@ -17,8 +17,8 @@ pub fn leader<F: Family>(family: &F, t: u32) -> Option<u8>
 
 // The leader of the slots up to k, where best leads those below k.
 fn better<F: Family>(family: &F, best: Option<u8>, k: u8, t: u32) -> Option<u8>
-    requires { LeaderBelow (F.Family.before family.now) (F.Family.slots family.now) k t best }
-    ensures { LeaderBelow (F.Family.before family.now) (F.Family.slots family.now) (k + 1) t result }
+    requires { LeaderBelow (F.before family.now) (F.slots family.now) k t best }
+    ensures { LeaderBelow (F.before family.now) (F.slots family.now) (k + 1) t result }
 {
     if family.card(k).is_none() {
         return best;

@@ -1,13 +1,12 @@
 // Late start: the family below as it is some time later. Its order at t is that below at t + delay, and past
 // the end it stays as at the last time.
 ghost use Rattle.std.specs.Prelude.{◌≡◌};
-ghost use Rattle.family.specs.Order.{clamp, NextChange};
-ghost use Rattle.family.specs.Slots.{slot_before};
+ghost use Rattle.family.specs.Order.{clamp};
 ghost use Rattle.layers.specs.Delayed.{delayed};
 ghost use Rattle.layers.specs.Delay.{moved_few};
 ghost use Rattle.std.proofs.Common.{rules};
 
-use family::{Family, LAST_TIME, Refusal};
+use family::{CardSlots, Family, LAST_TIME, Refusal};
 
 // A late start over a family, with the cards that are in it.
 #[derive(Drop)]
@@ -38,20 +37,12 @@ impl<F> LateStart<F> {
     }
 }
 
-impl<F: Family> Family for LateStart<F> {
+impl<F: CardSlots> CardSlots for LateStart<F> {
     type Card = F::Card;
 
-    ghost slots = { λ l. F.Family.slots l.below };
+    ghost slots = { λ l. F.slots l.below };
 
-    ghost before = { λ l. delayed l.delay (F.Family.before l.below) };
-
-    ghost swaps = { λ l. F.Family.swaps l.below };
-
-    ghost ordered = { Prim.search rules };
-
-    ghost few = { λ f. moved_few f.delay (F.Family.swaps f.below) (F.Family.before f.below) (F.Family.few f.below) };
-
-    ghost bounded = { Prim.search rules };
+    ghost alike = { λ l m. (l.delay ≡ m.delay) × F.alike l.below m.below };
 
     fn put(&mut self, slot: u8, card: F::Card) -> Result<(), Refusal> {
         self.below.put(slot, card)
@@ -64,24 +55,34 @@ impl<F: Family> Family for LateStart<F> {
     fn card(&self, slot: u8) -> Option<F::Card> {
         self.below.card(slot)
     }
+}
+
+impl<F: Family> Family for LateStart<F> {
+    ghost before = { λ l. delayed l.delay (F.before l.below) };
+
+    ghost swaps = { λ l. F.swaps l.below };
+
+    ghost ordered = { Prim.search rules };
+
+    ghost few = { λ f. moved_few f.delay (F.swaps f.below) (F.before f.below) (F.few f.below) };
+
+    ghost bounded = { Prim.search rules };
+
+    ghost order_stays = { Prim.search rules };
+
+    ghost bound_stays = { Prim.search rules };
 
     fn compare(&self, i: u8, j: u8, t: u32) -> bool {
         self.below.compare(i, j, t.saturating_add(self.delay))
     }
 
+    // The exchange here is that below of the times moved on by the delay, moved back again.
     fn next_exchange(&self, i: u8, j: u8, t: u32, end: u32) -> Option<u32> {
-        delayed_exchange(&self.below, self.delay, i, j, t, end)
+        let later = self.below.next_exchange(i, j, t.saturating_add(self.delay), end.saturating_add(self.delay))?;
+        Some(later - self.delay)
     }
 
     fn bound(&self) -> u8 {
         self.below.bound()
     }
-}
-
-// The exchange here is that below of the times moved on by the delay, moved back again.
-fn delayed_exchange<F: Family>(below: &F, delay: u32, i: u8, j: u8, t: u32, end: u32) -> Option<u32>
-    ensures { NextChange (slot_before (delayed delay (F.Family.before below.now)) (F.Family.slots below.now) i j) t end result }
-{
-    let later = below.next_exchange(i, j, t.saturating_add(delay), end.saturating_add(delay))?;
-    Some(later - delay)
 }

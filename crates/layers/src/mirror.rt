@@ -1,31 +1,21 @@
 // Mirror: the order of the family below, turned round. In it c is at or before d exactly when below it d
 // is at or before c, and amounts are negated; so the leading hopper of a mirror is the fullest.
-ghost use Rattle.family.specs.Order.{NextChange};
-ghost use Rattle.family.specs.Slots.{slot_before};
 ghost use Rattle.layers.specs.Mirrored.{turned, negated};
 ghost use Rattle.std.proofs.Common.{rules};
 
 use crate::negate::negate;
-use family::{Family, PricedFamily, Refusal};
+use family::{CardSlots, Family, Priced, PricedFamily, Refusal};
 
 // The mirror of a family, with the cards that are in it.
 #[derive(Drop)]
 pub struct Mirror<F>(pub F);
 
-impl<F: Family> Family for Mirror<F> {
+impl<F: CardSlots> CardSlots for Mirror<F> {
     type Card = F::Card;
 
-    ghost slots = { λ m. F.Family.slots m.0 };
+    ghost slots = { λ m. F.slots m.0 };
 
-    ghost before = { λ m. turned (F.Family.before m.0) };
-
-    ghost swaps = { λ m. F.Family.swaps m.0 };
-
-    ghost ordered = { Prim.search rules };
-
-    ghost few = { λ f c d ts changes. F.Family.few f.0 d c ts changes };
-
-    ghost bounded = { Prim.search rules };
+    ghost alike = { λ m n. F.alike m.0 n.0 };
 
     fn put(&mut self, slot: u8, card: F::Card) -> Result<(), Refusal> {
         self.0.put(slot, card)
@@ -38,6 +28,22 @@ impl<F: Family> Family for Mirror<F> {
     fn card(&self, slot: u8) -> Option<F::Card> {
         self.0.card(slot)
     }
+}
+
+impl<F: Family> Family for Mirror<F> {
+    ghost before = { λ m. turned (F.before m.0) };
+
+    ghost swaps = { λ m. F.swaps m.0 };
+
+    ghost ordered = { Prim.search rules };
+
+    ghost few = { λ f c d ts changes. F.few f.0 d c ts changes };
+
+    ghost bounded = { Prim.search rules };
+
+    ghost order_stays = { Prim.search rules };
+
+    ghost bound_stays = { Prim.search rules };
 
     // An empty slot comes last here as it does below, so only filled ones are turned round.
     fn compare(&self, i: u8, j: u8, t: u32) -> bool {
@@ -50,8 +56,9 @@ impl<F: Family> Family for Mirror<F> {
         self.0.compare(j, i, t)
     }
 
+    // The exchange here is that below of the pair turned round. Where a slot is empty, neither fact ever changes.
     fn next_exchange(&self, i: u8, j: u8, t: u32, end: u32) -> Option<u32> {
-        turned_exchange(&self.0, i, j, t, end)
+        self.0.next_exchange(j, i, t, end)
     }
 
     fn bound(&self) -> u8 {
@@ -59,8 +66,8 @@ impl<F: Family> Family for Mirror<F> {
     }
 }
 
-impl<F: PricedFamily> PricedFamily for Mirror<F> {
-    ghost amount = { λ m. negated (F.PricedFamily.amount m.0) };
+impl<F: Priced> Priced for Mirror<F> {
+    ghost amount = { λ m. negated (F.amount m.0) };
 
     ghost sized = { Prim.search rules };
 
@@ -76,9 +83,6 @@ impl<F: PricedFamily> PricedFamily for Mirror<F> {
     }
 }
 
-// The exchange here is that below of the pair turned round. Where a slot is empty, neither fact ever changes.
-fn turned_exchange<F: Family>(below: &F, i: u8, j: u8, t: u32, end: u32) -> Option<u32>
-    ensures { NextChange (slot_before (turned (F.Family.before below.now)) (F.Family.slots below.now) i j) t end result }
-{
-    below.next_exchange(j, i, t, end)
+impl<F: PricedFamily> PricedFamily for Mirror<F> {
+    ghost orders = { Prim.search rules };
 }

@@ -10,14 +10,14 @@ ghost use Rattle.layers.specs.Piled.{bottom, both_delays};
 
 use crate::late::LateStart;
 use crate::mirror::Mirror;
-use family::{Family, PricedFamily};
+use family::{Family, Priced};
 
 // A pile of three layers.
 pub type LateMirrorLate<F> = LateStart<Mirror<LateStart<F>>>;
 
 // Whether slot i is at or before slot j at t.
 pub fn compare_in_pile<F: Family>(pile: &LateMirrorLate<F>, i: u8, j: u8, t: u32) -> bool
-    ensures { result ≡ slot_before (turned (delayed (both_delays pile.now) (F.Family.before (bottom pile.now)))) (F.Family.slots (bottom pile.now)) i j t }
+    ensures { result ≡ slot_before (turned (delayed (both_delays pile.now) (F.before (bottom pile.now)))) (F.slots (bottom pile.now)) i j t }
 {
     pile.compare(i, j, t)
 }
@@ -30,14 +30,14 @@ pub fn exchange_in_pile<F: Family>(
     t: u32,
     end: u32,
 ) -> Option<u32>
-    ensures { NextChange (slot_before (turned (delayed (both_delays pile.now) (F.Family.before (bottom pile.now)))) (F.Family.slots (bottom pile.now)) i j) t end result }
+    ensures { NextChange (slot_before (turned (delayed (both_delays pile.now) (F.before (bottom pile.now)))) (F.slots (bottom pile.now)) i j) t end result }
 {
     piled_exchange(pile, i, j, t, end)
 }
 
 // The slot's amount at t, or none for an empty slot.
-pub fn amount_in_pile<F: PricedFamily>(pile: &LateMirrorLate<F>, slot: u8, t: u32) -> Option<i64>
-    ensures { result ≡ amount_of (negated (delayed_amount (both_delays pile.now) (F.PricedFamily.amount (bottom pile.now)))) (F.Family.slots (bottom pile.now) slot) t }
+pub fn amount_in_pile<F: Priced>(pile: &LateMirrorLate<F>, slot: u8, t: u32) -> Option<i64>
+    ensures { result ≡ amount_of (negated (delayed_amount (both_delays pile.now) (F.amount (bottom pile.now)))) (F.slots (bottom pile.now) slot) t }
 {
     pile.amount_at(slot, t)
 }
@@ -50,7 +50,7 @@ fn piled_exchange<F: Family>(
     t: u32,
     end: u32,
 ) -> Option<u32>
-    ensures { NextChange (slot_before (turned (delayed (both_delays pile.now) (F.Family.before (bottom pile.now)))) (F.Family.slots (bottom pile.now)) i j) t end result }
+    ensures { NextChange (slot_before (turned (delayed (both_delays pile.now) (F.before (bottom pile.now)))) (F.slots (bottom pile.now)) i j) t end result }
 {
     pile.next_exchange(i, j, t, end)
 }

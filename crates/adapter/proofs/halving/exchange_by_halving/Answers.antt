@@ -6,9 +6,9 @@ pub on_both_sides-requires : goal.on_both_sides-requires
 on_both_sides-requires g c =
     let below = c.args.below.now in
     let turns = c.turning-turning.ensures in
-    let at_i : g.T.TurningFamily.slots below c.args.i ≡ Some c.in_ok-c.c = cc (c.card.ensures, c.in_ok-c.was) in
-    let at_j : g.T.TurningFamily.slots below c.args.j ≡ Some c.in_ok-d.d = cc (c.card-2.ensures, c.in_ok-d.was) in
-    let part = once_by_turning (g.T.TurningFamily.amount below) (g.T.TurningFamily.slots below) c.args.i c.args.j _ _ in
+    let at_i : g.T.CardSlots.slots below c.args.i ≡ Some c.in_ok-c.c = cc (c.card.ensures, c.in_ok-c.was) in
+    let at_j : g.T.CardSlots.slots below c.args.j ≡ Some c.in_ok-d.d = cc (c.card-2.ensures, c.in_ok-d.was) in
+    let part = once_by_turning (g.T.Priced.amount below) (g.T.CardSlots.slots below) c.args.i c.args.j _ _ in
     record {
       ends = search rules;
       turns = turns.0;

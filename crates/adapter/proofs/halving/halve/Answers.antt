@@ -6,6 +6,6 @@ use Rattle.adapter.proofs.halving.halve.Goals as goal
 pub returns : goal.returns
 returns g c =
     let below = c.args.below.now in
-    first_next_to (no_larger (g.T.TurningFamily.amount below) (g.T.TurningFamily.slots below) c.args.i c.args.j) c.args.held
+    first_next_to (no_larger (g.T.Priced.amount below) (g.T.CardSlots.slots below) c.args.i c.args.j) c.args.held
     c.args.low c.args.high c.loop-differs.same c.loop-differs.differs c.requires.once c.requires.start c.loop-differs.invariant.0 (omega arith)
     c.loop-differs.invariant.2 c.loop-differs.invariant.3 c.loop-differs.invariant.4

@@ -6,5 +6,5 @@ use Rattle.adapter.proofs.halving.on_both_sides.Goals as goal
 pub returns : goal.returns
 returns g c =
     let below = c.args.below.now in
-    first_change_from (no_larger (g.T.TurningFamily.amount below) (g.T.TurningFamily.slots below) c.args.i c.args.j)
+    first_change_from (no_larger (g.T.Priced.amount below) (g.T.CardSlots.slots below) c.args.i c.args.j)
     c.args.from c.min-middle.result c.args.end c.on_one_side-2.result (omega arith) c.in_default.ensures c.on_one_side-2.ensures

@@ -9,10 +9,10 @@ pub returns-in_ok-amounts : goal.returns-in_ok-amounts
 returns-in_ok-amounts g c =
     let n = length c.args.cells.now in
     let told = c.min-told.result in
-    let amount = g.F.PricedFamily.amount c.args.below.now in
-    let held = g.F.Family.slots c.args.below.now c.args.slot in
+    let amount = g.F.Priced.amount c.args.below.now in
+    let held = g.F.CardSlots.slots c.args.below.now c.args.slot in
     let filled = c.fill.ensures.after (λ y e. e) ∙ ap (replicate n) (to_z-of_z w64 c.args.last c.ranges.last) in
-    let written = c.in_ok-amounts.ensures.answer in
+    let written = c.in_ok-amounts.ensures in
     let as_long : length c.amounts.new.cells ≡ told = written.2 ∙ length-take-le told c.fill.new.self (omega arith) in
     let len = whole_length c.fill.new.self c.amounts.new.cells told n c.args.last filled as_long (omega arith) in
     record {
@@ -26,8 +26,8 @@ returns-in_ok-amounts g c =
 pub returns-else-told-gt0 : goal.returns-else-told-gt0
 returns-else-told-gt0 g c =
     let n = length c.args.cells.now in
-    let amount = g.F.PricedFamily.amount c.args.below.now in
-    let held = g.F.Family.slots c.args.below.now c.args.slot in
+    let amount = g.F.Priced.amount c.args.below.now in
+    let held = g.F.CardSlots.slots c.args.below.now c.args.slot in
     let filled = c.fill.ensures.after (λ y e. e) ∙ ap (replicate n) (to_z-of_z w64 c.args.last c.ranges.last) in
     record {
       done = search rules;
