@@ -12,7 +12,7 @@ ghost use Rattle.hoppers.specs.Fill.{fill_at};
 ghost use Rattle.vans.specs.Distance.{distance_at};
 
 use adapter::Adapter;
-use family::{Family, TurningFamily};
+use family::{CardSlots, Family, Priced, TurningFamily};
 use hoppers::Hoppers;
 use vans::Vans;
 
@@ -59,9 +59,9 @@ fn exchange_both_ways<C: Copy, F: Family<Card = C>, T: TurningFamily<Card = C>>(
     t: u32,
     end: u32,
 ) -> (Option<u32>, Option<u32>)
-    ensures first { NextChange (slot_before (F.Family.before family.now) (F.Family.slots family.now) i j) t end result.0 }
-    ensures second { NextChange (slot_before (by_amount (T.TurningFamily.amount adapter.now.0)) (T.TurningFamily.slots adapter.now.0) i j) t end result.1 }
-    ensures agree { OrderedBy (F.Family.before family.now) (T.TurningFamily.amount adapter.now.0) → F.Family.slots family.now i ≡ T.TurningFamily.slots adapter.now.0 i → F.Family.slots family.now j ≡ T.TurningFamily.slots adapter.now.0 j → result.0 ≡ result.1 }
+    ensures first { NextChange (slot_before (F.before family.now) (F.slots family.now) i j) t end result.0 }
+    ensures second { NextChange (slot_before (by_amount (T.amount adapter.now.0)) (T.slots adapter.now.0) i j) t end result.1 }
+    ensures agree { OrderedBy (F.before family.now) (T.amount adapter.now.0) → F.slots family.now i ≡ T.slots adapter.now.0 i → F.slots family.now j ≡ T.slots adapter.now.0 j → result.0 ≡ result.1 }
 {
     let first = family.next_exchange(i, j, t, end);
     let second = adapter.next_exchange(i, j, t, end);

@@ -6,7 +6,7 @@ ghost use Rattle.fullest.specs.Stretches.{Chart};
 use crate::chart::stretches;
 use crate::reading::{Attempt, Reading};
 use crate::stretch::Stretch;
-use family::{Family, PricedFamily, Refusal};
+use family::{CardSlots, Family, PricedFamily, Refusal};
 use hoppers::Hopper;
 use std::alloc::{AllocError, Global};
 

@@ -6,7 +6,7 @@ ghost use Rattle.fullest.specs.Stretches.{HoldsUntil, earlier_of, Lasting, Leadi
 
 use crate::lead::leader;
 use crate::stretch::Stretch;
-use family::{Family, LAST_TIME, PricedFamily};
+use family::{Family, LAST_TIME, Priced, PricedFamily};
 use std::alloc::{AllocError, Global};
 
 // The chart from 0 to 1,000,000; no stretch where no card stands. An `Err` is want of memory, and tells

@@ -2,7 +2,7 @@
 ghost use Rattle.std.specs.Prelude.{◌+◌};
 ghost use Rattle.fullest.specs.Lead.{Leader, LeaderBelow};
 
-use family::Family;
+use family::{CardSlots, Family};
 
 // The leader of all slots at t, or none where no card stands. Level cards go to the lowest slot.
 pub fn leader<F: Family>(family: &F, t: u32) -> Option<u8>

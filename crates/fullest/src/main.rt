@@ -3,7 +3,7 @@
 
 use account::Account;
 use cards::ByAmount;
-use family::Family;
+use family::{CardSlots, Family};
 use hoppers::{Hopper, Hoppers};
 use layers::Mirror;
 use reading::Attempt;

@@ -8,6 +8,6 @@ returns g c =
     record {
       first = c.next_exchange-first.ensures;
       second = c.next_exchange-second.ensures;
-      agree = one_answer (g.F.Family.before family) (g.T.TurningFamily.amount below) (g.F.Family.slots family) (g.T.TurningFamily.slots below)
+      agree = one_answer (g.F.Family.before family) (g.T.Priced.amount below) (g.F.CardSlots.slots family) (g.T.CardSlots.slots below)
           c.args.i c.args.j c.args.t c.args.end _ _ c.next_exchange-first.ensures c.next_exchange-second.ensures;
     }

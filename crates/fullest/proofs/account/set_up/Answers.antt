@@ -10,7 +10,7 @@ none_read = record { slot = 0; fill = 0; rate = pos 0; capacity = 0 }
 pub loop-reading-preserved : goal.loop-reading-preserved
 unfolding none_read
 loop-reading-preserved g c =
-    let slots = g.F.Family.slots in
+    let slots = g.F.CardSlots.slots in
     let reading = get_or c.args.readings.now c.loop-reading.reading-index none_read in
     let more = take_more c.args.readings.now c.loop-reading.reading-index none_read (omega arith) in (
       rw (more, c.in_ok-push.ensures.items)

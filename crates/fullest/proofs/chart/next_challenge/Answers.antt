@@ -7,7 +7,7 @@ pub returns-then-k-leader : goal.returns-then-k-leader
 returns-then-k-leader g c =
     let f = c.args.family.now in
     let known : clamp c.args.t ≡ c.args.t = omega arith in
-    lower_until (g.F.Family.before f) (g.met.F.Family.ordered f) (g.F.Family.slots f) c.args.leader c.args.k c.args.t
+    lower_until (g.F.Family.before f) (g.met.F.Family.ordered f) (g.F.CardSlots.slots f) c.args.leader c.args.k c.args.t
     c.next_exchange.result c.if-k-leader.true c.requires.1.1 (c.requires.1.2 c.args.k (omega arith))
     (rw known at c.next_exchange.ensures)
 
@@ -15,6 +15,6 @@ pub returns-else-k-leader : goal.returns-else-k-leader
 returns-else-k-leader g c =
     let f = c.args.family.now in
     let known : clamp c.args.t ≡ c.args.t = omega arith in
-    higher_until (g.F.Family.before f) (g.met.F.Family.ordered f) (g.F.Family.slots f) c.args.leader c.args.k c.args.t
+    higher_until (g.F.Family.before f) (g.met.F.Family.ordered f) (g.F.CardSlots.slots f) c.args.leader c.args.k c.args.t
     c.next_exchange-else-k-leader.result c.if-k-leader.false (c.requires.1.2 c.args.k (omega arith))
     (rw known at c.next_exchange-else-k-leader.ensures)

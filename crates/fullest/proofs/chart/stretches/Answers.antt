@@ -8,7 +8,7 @@ pub returns-in_default : goal.returns-in_default
 returns-in_default g c =
     let f = c.args.family.now in
     let none = c.in_default.ensures in
-    inl (none_told (g.F.Family.before f) (g.F.Family.slots f) (g.F.PricedFamily.amount f) _ none c.loop-first.invariant.2, none)
+    inl (none_told (g.F.Family.before f) (g.F.CardSlots.slots f) (g.F.Priced.amount f) _ none c.loop-first.invariant.2, none)
 
 pub loop-first-preserved : goal.loop-first-preserved
 loop-first-preserved g c =
@@ -20,7 +20,7 @@ loop-first-preserved g c =
     rw pushed (
       omega (arith, found.1.0.1),
       one_stretch_more 0 c.loop-first.first told s c.loop-first.invariant.1 found.0,
-      All-push (Leading (g.F.Family.before f) (g.F.Family.slots f) (g.F.PricedFamily.amount f)) told s c.loop-first.invariant.2 found.1,
+      All-push (Leading (g.F.Family.before f) (g.F.CardSlots.slots f) (g.F.Priced.amount f)) told s c.loop-first.invariant.2 found.1,
     )
 
 pub returns : goal.returns
