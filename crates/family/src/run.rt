@@ -8,10 +8,8 @@ use crate::time::LAST_TIME;
 pub fn run_in_range(first: u32, cells: &[i64]) -> Result<(), Refusal>
     ensures { RangeAnswer first cells.now result }
 {
-    if first > LAST_TIME {
-        return Err(Refusal::PastEnd);
-    }
-    if cells.len() > (LAST_TIME + 1 - first) as usize {
+    let left = (LAST_TIME + 1).saturating_sub(first);
+    if first > LAST_TIME || cells.len() > left as usize {
         return Err(Refusal::PastEnd);
     }
     Ok(())

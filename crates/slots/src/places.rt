@@ -12,23 +12,22 @@ impl<C: Copy> CardSlots for Slots<C> {
     ghost alike = { λ _ _. Unit {0} };
 
     fn put(&mut self, slot: u8, card: C) -> Result<(), Refusal> {
-        if self.places[slot as usize].is_some() {
+        let place = &mut self.places[usize::from(slot)];
+        if place.is_some() {
             return Err(Refusal::SlotFilled);
         }
-        self.places[slot as usize] = Some(card);
+        *place = Some(card);
         Ok(())
     }
 
     fn lift(&mut self, slot: u8) -> Result<(), Refusal> {
-        if self.places[slot as usize].is_none() {
-            return Err(Refusal::SlotEmpty);
+        match self.places[usize::from(slot)].take() {
+            Some(_) => Ok(()),
+            None => Err(Refusal::SlotEmpty),
         }
-        self.places[slot as usize] = None;
-        Ok(())
     }
 
     fn card(&self, slot: u8) -> Option<C> {
-        let place = slot as usize;
-        self.places[place]
+        self.places[usize::from(slot)]
     }
 }

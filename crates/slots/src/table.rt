@@ -1,5 +1,5 @@
 // The table itself.
-ghost use Rattle.std.specs.Prelude.{◌≡◌, ℕ, None, slice_index_or};
+ghost use Rattle.std.specs.Prelude.{◌≡◌, ℕ, None};
 ghost use Rattle.slots.specs.Held.{cards_of};
 
 #[derive(Drop)]
@@ -13,13 +13,7 @@ impl<C: Copy> Slots<C> {
         ensures { (k : ℕ) → cards_of result k ≡ None }
     {
         Slots {
-            places: empty_places(),
+            places: [None; 256],
         }
     }
-}
-
-fn empty_places<C: Copy>() -> [Option<C>; 256]
-    ensures { (k : ℕ) → slice_index_or result k None ≡ None }
-{
-    [None; 256]
 }
