@@ -1,5 +1,5 @@
 -- Laws of facts that change with time.
-use Rattle.std.proofs.Common.{◌≡◌, ℕ, zero, suc, ◌-◌, ◌<◌, ◌≤◌, Bool, true, false, not, ◌⊎◌, Some, None, Option, sym, refl, ap, ◌∙◌, inl, inr, ⊎_elim, arith}
+use Rattle.std.proofs.Common.{◌≡◌, ℕ, zero, suc, ◌-◌, ◌<◌, ◌≤◌, Bool, not, ◌⊎◌, Some, None, Option, sym, refl, ap, ◌∙◌, ⊎_elim, arith}
 use Rattle.std.proofs.lemmas.Bool.{cases_lt}
 use Rattle.family.specs.Order.{FirstChange}
 
@@ -8,23 +8,14 @@ abbrev pub LastsIn : (ℕ → Type 0) → Bool → (ℕ → Bool) → Type 0
 LastsIn In b p = (t u : ℕ) → In t → In u → t ≤ u → p t ≡ b → p u ≡ b
 
 never_opposite : {X : Type 0} (b : Bool) → b ≡ not b → X
-never_opposite true e = absurd (let z : ◌≡◌ {A = ℕ} 0 1 = cc in omega arith)
-never_opposite false e = absurd (let z : ◌≡◌ {A = ℕ} 0 1 = cc in omega arith)
+never_opposite b e = absurd (grind arith)
 
 -- after a change, such a fact is b
 changed_to : (b x y : Bool) → (x ≡ b → y ≡ b) → y ≡ not x → y ≡ b
-changed_to true true y kept e = kept refl
-changed_to true false y kept e = e
-changed_to false true y kept e = e
-changed_to false false y kept e = kept refl
+changed_to b x y kept e = grind arith
 
 same_between : (b x y z : Bool) → (x ≡ b → y ≡ b) → (y ≡ b → z ≡ b) → z ≡ x → y ≡ x
-same_between true true y z on _ _ = on refl
-same_between true false true z _ on e = sym (on refl) ∙ e
-same_between true false false z _ _ _ = refl
-same_between false false y z on _ _ = on refl
-same_between false true false z _ on e = sym (on refl) ∙ e
-same_between false true true z _ _ _ = refl
+same_between b x y z from on e = grind arith
 
 -- and then it changes no more: two changes in one part are one too many
 pub two_changes_clash : {X : Type 0} (In : ℕ → Type 0) (b : Bool) (p : ℕ → Bool) → LastsIn In b p → (t u : ℕ) → 0 < t → t < u
@@ -101,10 +92,7 @@ first_change_once p t end (Some v) (Some w) (v_above, v_upto, v_differs, v_same)
 
 -- and there always is one, or none is told for sure
 same_or_opposite : (x y : Bool) → (x ≡ y) ⊎ (x ≡ not y)
-same_or_opposite true true = inl refl
-same_or_opposite true false = inr refl
-same_or_opposite false true = inr refl
-same_or_opposite false false = inl refl
+same_or_opposite x y = grind arith
 
 one_time_more : (p : ℕ → Bool) (t n : ℕ) (r : Option ℕ) → FirstChange p t n r → (s : Option ℕ) × FirstChange p t (suc n) s
 one_time_more p t n (Some w) first = (Some w, first_change_upto p t n (suc n) w (omega arith) first)

@@ -39,24 +39,22 @@ module _ {C : Type 0} (amount : Amount C) (c d : C) where
       → fact (by_amount amount) c d u ≡ not (fact (by_amount amount) c d (u - 1)) → X
   apart a b steady t u = let l = lasts a b steady in two_changes_clash (Within a b) l.0 _ l.1 t u
 
--- what never falls from one time to the next never falls, and so with rising
-rises_on : (g : ℕ → ℤ) (t n : ℕ) → ((k : ℕ) → t ≤ k → k < t + n → g k ≤ℤ g (suc k)) → g t ≤ℤ g (t + n)
-rises_on g t zero _ = rw add-zero (omega (arith, ints))
-rises_on g t (suc n) step = rw add-suc (omega (arith, ints, rises_on g t n (λ k a b. step k a (omega arith)), step (t + n) (omega arith) (omega arith)))
-
-falls_on : (g : ℕ → ℤ) (t n : ℕ) → ((k : ℕ) → t ≤ k → k < t + n → g (suc k) ≤ℤ g k) → g (t + n) ≤ℤ g t
-falls_on g t zero _ = rw add-zero (omega (arith, ints))
-falls_on g t (suc n) step = rw add-suc (omega (arith, ints, falls_on g t n (λ k a b. step k a (omega arith)), step (t + n) (omega arith) (omega arith)))
+-- what each step keeps, any number of steps keep: an order that is so from each time to the next is so throughout
+by_steps : (R : ℤ → ℤ → Type 0) → ((x : ℤ) → R x x) → ((x y z : ℤ) → R x y → R y z → R x z) → (g : ℕ → ℤ) (t n : ℕ)
+    → ((k : ℕ) → t ≤ k → k < t + n → R (g k) (g (suc k))) → R (g t) (g (t + n))
+by_steps R level on g t zero _ = rw add-zero (level (g t))
+by_steps R level on g t (suc n) step =
+    rw add-suc (on _ _ _ (by_steps R level on g t n (λ k a b. step k a (omega arith))) (step (t + n) (omega arith) (omega arith)))
 
 pub never_falls_by_steps : (g : ℕ → ℤ) (a b : ℕ) → ((k : ℕ) → a ≤ k → k < b → g k ≤ℤ g (suc k)) → NeverFalls g a b
 never_falls_by_steps g a b step t u from on upto =
     let e : u ≡ t + (u - t) = omega arith in
-    rw e (rises_on g t (u - t) (λ k p q. step k (omega arith) (omega arith)))
+    rw e (by_steps (λ x y. x ≤ℤ y) (λ x. omega (arith, ints)) (λ x y z p q. omega (arith, ints)) g t (u - t) (λ k p q. step k (omega arith) (omega arith)))
 
 pub never_rises_by_steps : (g : ℕ → ℤ) (a b : ℕ) → ((k : ℕ) → a ≤ k → k < b → g (suc k) ≤ℤ g k) → NeverRises g a b
 never_rises_by_steps g a b step t u from on upto =
     let e : u ≡ t + (u - t) = omega arith in
-    rw e (falls_on g t (u - t) (λ k p q. step k (omega arith) (omega arith)))
+    rw e (by_steps (λ x y. y ≤ℤ x) (λ x. omega (arith, ints)) (λ x y z p q. omega (arith, ints)) g t (u - t) (λ k p q. step k (omega arith) (omega arith)))
 
 -- what is steady stays so under another name
 pub steady_alike : (g h : ℕ → ℤ) (a b : ℕ) → ((t : ℕ) → g t ≡ h t) → Steady g a b → Steady h a b
