@@ -36,7 +36,7 @@ line_steady g k a b =
     (λ above. inl (λ t u _ upto _. omega (arith, ints, ahead g k t u upto, times_rises k (u - t) above)))
 
 -- "x is at most y" is "y less x is not negative"
-le_by_gap : (x y : ℤ) → le_z x y ≡ le_z (pos 0) (y -ℤ x)
+pub le_by_gap : (x y : ℤ) → le_z x y ≡ le_z (pos 0) (y -ℤ x)
 le_by_gap x y = grind (arith, ints)
 
 -- so "c is at or before d" is "what d's amount has above c's is not negative"
