@@ -3,6 +3,7 @@ use Rattle.std.proofs.Common.{◌≡◌, ℕ, suc, ◌+◌, ◌*◌, ◌≤◌, 
 use lib.IntN.{*ℤ_comm}
 use borrow.Author.Differences.{ints, up, down, same_in, neg_is, product_is}
 use Rattle.std.proofs.lemmas.Nat.{mul-le}
+use Rattle.std.proofs.lemmas.Int.{unsigned_abs-mul}
 
 -- a product with a sum is a sum of products
 pub times_sum : (a b c : ℤ) → a *ℤ (b +ℤ c) ≡ a *ℤ b +ℤ a *ℤ c
@@ -32,16 +33,7 @@ sum_times a b c =
 
 -- a product with the opposite is the opposite of the product
 pub neg_times : (a b : ℤ) → neg_ℤ a *ℤ b ≡ neg_ℤ (a *ℤ b)
-neg_times a b =
-    let turned = neg_is a in
-    omega (
-      arith,
-      ints,
-      ap (λ n. n * up b) turned.0,
-      ap (λ n. n * down b) turned.0,
-      ap (λ n. n * up b) turned.1,
-      ap (λ n. n * down b) turned.1,
-    )
+neg_times a b = let turned = neg_is a in same_in _ _ (omega (arith, ints, ap (λ n. n * up b) turned.0, ap (λ n. n * down b) turned.0, ap (λ n. n * up b) turned.1, ap (λ n. n * down b) turned.1))
 
 pub minus_times : (a b c : ℤ) → (a -ℤ b) *ℤ c ≡ a *ℤ c -ℤ b *ℤ c
 minus_times a b c =
@@ -99,7 +91,4 @@ square_of_line p v t =
 
 -- a product is no larger than the product of the bounds
 pub times_size : (a b : ℤ) (m n : ℕ) → nat_abs a ≤ m → nat_abs b ≤ n → nat_abs (a *ℤ b) ≤ m * n
-times_size (pos a) (pos b) m n f g = mul-le a b m n f g
-times_size (pos a) (negsuc b) m n f g = omega (arith, ints, mul-le a (suc b) m n f g)
-times_size (negsuc a) (pos b) m n f g = omega (arith, ints, mul-le (suc a) b m n f g)
-times_size (negsuc a) (negsuc b) m n f g = mul-le (suc a) (suc b) m n f g
+times_size a b m n f g = rw unsigned_abs-mul (mul-le (nat_abs a) (nat_abs b) m n f g)
