@@ -1,23 +1,16 @@
 -- A line from a time on, and a band around 0.
-use Rattle.std.proofs.Common.{◌≡◌, ℕ, ◌+◌, ◌-◌, ◌≤◌, Bool, true, false, leb, ℤ, pos, negsuc, ◌+ℤ◌, ◌-ℤ◌, ◌*ℤ◌, neg_ℤ, nat_abs, ◌≤ℤ◌, ◌<ℤ◌, Some, None, Option, sym, refl, ap, ◌∙◌, ⊎_elim, arith}
+use Rattle.std.proofs.Common.{◌≡◌, ℕ, ◌+◌, ◌-◌, ◌≤◌, Bool, true, false, leb, ℤ, pos, ◌+ℤ◌, ◌-ℤ◌, ◌*ℤ◌, neg_ℤ, nat_abs, ◌≤ℤ◌, ◌<ℤ◌, Some, None, Option, sym, refl, ap, ◌∙◌, ⊎_elim, arith}
 use Rattle.std.specs.Bool.{then_some}
 use lib.Signed.{le_z}
 use borrow.Author.Differences.{ints}
-use Rattle.std.proofs.lemmas.Nat.{mul-le}
 use Rattle.std.proofs.lemmas.Bool.{cases_lt}
 use Rattle.family.specs.Order.{FirstChange}
 use Rattle.family.proofs.Change.{first_change_alike}
 use Rattle.crossing.specs.Line.{line, not_negative}
 use Rattle.parabola.specs.declared.line.Line.{Line}
 use Rattle.parabola.specs.Reach.{in_reach}
-use Rattle.crossing.proofs.Ring.{neg_times, times_sum}
-use Rattle.crossing.proofs.Lines.{le_by_gap}
-
--- what is gained up to a time, and from then on
-gains : (k : ℤ) (from u : ℕ) → from ≤ u → k *ℤ pos u ≡ k *ℤ pos from +ℤ k *ℤ pos (u - from)
-gains k from u on =
-    let e : u ≡ from + (u - from) = omega arith in
-    ap (λ n. k *ℤ pos n) e ∙ times_sum k (pos from) (pos (u - from))
+use Rattle.crossing.proofs.Ring.{neg_times}
+use Rattle.crossing.proofs.Lines.{ahead, times_rises, le_by_gap}
 
 -- what starts at a time from where the line is then goes on as the line does
 pub goes_on : (l : Line) (gap drift : ℤ) (from end : ℕ) (r : Option ℕ) → gap ≡ line l.start l.step from → drift ≡ l.step
@@ -25,18 +18,14 @@ pub goes_on : (l : Line) (gap drift : ℤ) (from end : ℕ) (r : Option ℕ) →
 goes_on l gap drift from end r g d =
     first_change_alike _ _ from end r
     (λ u on _.
-    let t = gains l.step from u on in
+    let t = ahead l.start l.step from u on in
     let e : line gap drift (u - from) ≡ line l.start l.step u = rw (g, d) (omega (arith, ints)) in ap (le_z (pos 0)) e)
 
 -- a line, and one that is as far from 0 and never falls
 module _ (own l : Line) (up : pos 0 ≤ℤ l.step) (far : (u : ℕ) → nat_abs (line l.start l.step u) ≡ nat_abs (line own.start own.step u))
     (reach from end : ℕ) (gap drift : ℤ) where
   rises : (t u : ℕ) → t ≤ u → line l.start l.step t ≤ℤ line l.start l.step u
-  rises t u on = climbs l.step up
-    where
-      climbs : (k : ℤ) → pos 0 ≤ℤ k → line l.start k t ≤ℤ line l.start k u
-      climbs (pos k) _ = omega (arith, ints, mul-le k t k u (omega arith) on)
-      climbs (negsuc k) above = absurd (omega (arith, ints))
+  rises t u on = omega (arith, ints, ahead l.start l.step t u on, times_rises l.step (u - t) up)
 
   as_far : (r : Option ℕ) → FirstChange (λ u. in_reach reach (line l.start l.step u)) from end r
       → FirstChange (λ u. in_reach reach (line own.start own.step u)) from end r
@@ -51,7 +40,7 @@ module _ (own l : Line) (up : pos 0 ≤ℤ l.step) (far : (u : ℕ) → nat_abs 
       → FirstChange (λ u. not_negative gap drift (u - from)) from end r → FirstChange (λ u. in_reach reach (line own.start own.step u)) from end r
   leaves r g d low first =
       as_far r (first_change_alike _ _ from end r (λ u on _.
-      let t = gains l.step from u on in
+      let t = ahead l.start l.step from u on in
       let n = neg_times l.step (pos (u - from)) in
       inside (line l.start l.step u) (line gap drift (u - from)) (rw (g, d) (omega (arith, ints))) (omega (arith, ints, rises from u on)))
       first)
@@ -63,7 +52,7 @@ module _ (own l : Line) (up : pos 0 ≤ℤ l.step) (far : (u : ℕ) → nat_abs 
   module _ (g : gap ≡ line l.start l.step from +ℤ pos reach) (d : drift ≡ l.step) (under : line l.start l.step from <ℤ neg_ℤ (pos reach)) where
     gained : (u : ℕ) → from ≤ u → not_negative gap drift (u - from) ≡ le_z (neg_ℤ (pos reach)) (line l.start l.step u)
     gained u on =
-        let t = gains l.step from u on in
+        let t = ahead l.start l.step from u on in
         let e : line gap drift (u - from) ≡ line l.start l.step u -ℤ neg_ℤ (pos reach) = rw (g, d) (omega (arith, ints)) in
         ap (le_z (pos 0)) e ∙ sym (le_by_gap (neg_ℤ (pos reach)) (line l.start l.step u))
 
