@@ -9,7 +9,7 @@ use Rattle.crossing.specs.Line.{line}
 use Rattle.crossing.proofs.Ring.{times_sum, minus_times, times_size}
 
 -- a product by a number that is not negative has the sign of the other factor
-times_rises : (k : ℤ) (n : ℕ) → pos 0 ≤ℤ k → pos 0 ≤ℤ (k *ℤ pos n)
+pub times_rises : (k : ℤ) (n : ℕ) → pos 0 ≤ℤ k → pos 0 ≤ℤ (k *ℤ pos n)
 times_rises (pos a) n _ = omega (arith, ints)
 times_rises (negsuc a) n h = absurd (omega (arith, ints))
 
@@ -25,10 +25,11 @@ line_on gap drift t w = omega (arith, ints, times_sum drift (pos t) (pos w))
 pub line_minus : (g k h l : ℤ) (t : ℕ) → line g k t -ℤ line h l t ≡ line (g -ℤ h) (k -ℤ l) t
 line_minus g k h l t = omega (arith, ints, minus_times k l (pos t))
 
--- a line never falls or never rises
-ahead : (g k : ℤ) (t u : ℕ) → t ≤ u → line g k u ≡ line g k t +ℤ k *ℤ pos (u - t)
+-- what a line gains from a time on
+pub ahead : (g k : ℤ) (t u : ℕ) → t ≤ u → line g k u ≡ line g k t +ℤ k *ℤ pos (u - t)
 ahead g k t u upto = let e : u ≡ t + (u - t) = omega arith in ap (line g k) e ∙ line_on g k t (u - t)
 
+-- a line never falls or never rises
 pub line_steady : (g k : ℤ) (a b : ℕ) → Steady (line g k) a b
 line_steady g k a b =
     by_lt_z k (pos 0)
@@ -36,7 +37,7 @@ line_steady g k a b =
     (λ above. inl (λ t u _ upto _. omega (arith, ints, ahead g k t u upto, times_rises k (u - t) above)))
 
 -- "x is at most y" is "y less x is not negative"
-le_by_gap : (x y : ℤ) → le_z x y ≡ le_z (pos 0) (y -ℤ x)
+pub le_by_gap : (x y : ℤ) → le_z x y ≡ le_z (pos 0) (y -ℤ x)
 le_by_gap x y = grind (arith, ints)
 
 -- so "c is at or before d" is "what d's amount has above c's is not negative"

@@ -19,15 +19,7 @@ ghost use Rattle.crossing.specs.Line.{line, not_negative, FirstEver};
 pub fn line_at(start: i32, step: i32, times: u32) -> i64
     ensures { result ≡ line start step times }
 {
-    moved(i64::from(start), i64::from(step), times)
-}
-
-fn moved(start: i64, step: i64, times: u32) -> i64
-    requires near { FitsSigned w32 start }
-    requires slow { FitsSigned w32 step }
-    ensures { result ≡ line start step times }
-{
-    start + step * i64::from(times)
+    i64::from(start) + i64::from(step) * i64::from(times)
 }
 
 // The least u with from < u ≤ end at which "gap + drift × (u − from) is not negative" differs from what
@@ -35,27 +27,20 @@ fn moved(start: i64, step: i64, times: u32) -> i64
 pub fn next_crossing(gap: i64, drift: i64, from: u32, end: u32) -> Option<u32>
     ensures { FirstChange (λ u. not_negative gap drift (u - from)) from end result }
 {
-    let Some(steps) = wait(gap, drift) else {
-        return None;
-    };
-    if steps > u64::from(end.saturating_sub(from)) {
-        return None;
-    }
-    Some(from + steps as u32)
+    let steps = wait(gap, drift)?;
+    let left = u64::from(end.saturating_sub(from));
+    (steps <= left).then(|| from + steps as u32)
 }
 
 // The least w above 0 at which "gap + drift × w is not negative" differs from what it is at 0, or none.
 fn wait(gap: i64, drift: i64) -> Option<u64>
     ensures { FirstEver (not_negative gap drift) result }
 {
-    if gap >= 0 {
-        if drift >= 0 {
-            return None;
-        }
-        return Some(gap.unsigned_abs() / drift.unsigned_abs() + 1);
+    if gap >= 0 && drift < 0 {
+        Some(gap.unsigned_abs() / drift.unsigned_abs() + 1)
+    } else if gap < 0 && drift > 0 {
+        Some((gap.unsigned_abs() - 1) / drift.unsigned_abs() + 1)
+    } else {
+        None
     }
-    if drift <= 0 {
-        return None;
-    }
-    Some((gap.unsigned_abs() - 1) / drift.unsigned_abs() + 1)
 }

@@ -57,24 +57,18 @@ no_root : (y n : ℤ) → n <ℤ pos 0 → le_z (y *ℤ y) n ≡ false
 no_root (pos m) n under = grind (arith, ints)
 no_root (negsuc m) n under = grind (arith, ints)
 
--- so the hollow is where the square is at most the discriminant, or one less
-hollow_upward : (p : Parabola) (t : ℕ) → pos 0 <ℤ p.bend → in_hollow p t ≡ le_z (half_slope_of p t *ℤ half_slope_of p t) (discriminant_of p -ℤ pos 1)
-hollow_upward p t above =
-    let opens : lt_z (pos 0) p.bend ≡ true = sym (omega (arith, ints)) in
-    cond-true _ _ _ opens ∙ opens_upward p.bend (height_of p t) _ (discriminant_of p) (bend_height p.start p.tilt p.bend t) above
-
-hollow_downward : (p : Parabola) (t : ℕ) → p.bend <ℤ pos 0 → in_hollow p t ≡ le_z (half_slope_of p t *ℤ half_slope_of p t) (discriminant_of p)
-hollow_downward p t under =
-    let opens : lt_z (pos 0) p.bend ≡ false = sym (omega (arith, ints)) in
-    cond-false _ _ _ opens ∙ opens_downward p.bend (height_of p t) _ (discriminant_of p) (bend_height p.start p.tilt p.bend t) under
-
--- and the root of that tells how far from 0 half the slope may be
+-- so the height is in the hollow where the square is at most a number, and half the slope is within the root of that
 reach_by_root : (p : Parabola) (n : ℤ) (r : Option ℕ) → ((t : ℕ) → in_hollow p t ≡ le_z (half_slope_of p t *ℤ half_slope_of p t) n) → RootOf n r → ReachOf p r
 reach_by_root p n None hollow under = λ t. hollow t ∙ no_root (half_slope_of p t) n under
 reach_by_root p n (Some r) hollow root = λ t. hollow t ∙ in_root (half_slope_of p t) n r root
 
+-- the number is the discriminant, or one less
 pub reach_upward : (p : Parabola) (n : ℤ) (r : Option ℕ) → pos 0 <ℤ p.bend → n ≡ discriminant_of p -ℤ pos 1 → RootOf n r → ReachOf p r
-reach_upward p n r above e = reach_by_root p n r (λ t. hollow_upward p t above ∙ ap (le_z _) (sym e))
+reach_upward p n r above e =
+    let opens : lt_z (pos 0) p.bend ≡ true = sym (omega (arith, ints)) in
+    reach_by_root p n r (λ t. cond-true _ _ _ opens ∙ opens_upward p.bend (height_of p t) _ (discriminant_of p) (bend_height p.start p.tilt p.bend t) above ∙ ap (le_z _) (sym e))
 
 pub reach_downward : (p : Parabola) (n : ℤ) (r : Option ℕ) → p.bend <ℤ pos 0 → n ≡ discriminant_of p → RootOf n r → ReachOf p r
-reach_downward p n r under e = reach_by_root p n r (λ t. hollow_downward p t under ∙ ap (le_z _) (sym e))
+reach_downward p n r under e =
+    let opens : lt_z (pos 0) p.bend ≡ false = sym (omega (arith, ints)) in
+    reach_by_root p n r (λ t. cond-false _ _ _ opens ∙ opens_downward p.bend (height_of p t) _ (discriminant_of p) (bend_height p.start p.tilt p.bend t) under ∙ ap (le_z _) (sym e))

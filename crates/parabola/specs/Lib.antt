@@ -2,4 +2,3 @@ pub mod Limits
 pub mod Height
 pub mod Reach
 pub mod Slope
-pub mod Steps

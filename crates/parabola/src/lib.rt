@@ -10,10 +10,10 @@
 // 2 to 4. At 1 and at 5 it is 0.
 #![tactic(auto)]
 
-mod band;
 mod curve;
-mod edges;
+mod line;
 mod root;
+mod sign;
 mod turn;
 
 pub use curve::Parabola;
