@@ -15,7 +15,10 @@ impl Hopper {
     pub fn new(fill: u32, rate: i32, capacity: u32) -> Result<Hopper, Refusal>
         ensures { Making fill rate capacity result }
     {
-        if (1..=MOST_COINS).contains(&capacity) && fill <= capacity && rate.unsigned_abs() <= FASTEST {
+        if (1..=MOST_COINS).contains(&capacity)
+            && fill <= capacity
+            && rate.unsigned_abs() <= FASTEST
+        {
             Ok(Hopper {
                 fill,
                 rate,
