@@ -13,7 +13,7 @@ module _ (a b : ℤ) (small_a : unsigned_abs a ≤ 1000100000) (small_b : unsign
   product_is : read a *ℤ read b ≡ a *ℤ b
   product_is = product_kept a b a b refl refl (small_fits a (omega arith)) (small_fits b (omega arith))
 
-  product_size : unsigned_abs (a *ℤ b) ≤ 1000200010000000000
+  pub product_size : unsigned_abs (a *ℤ b) ≤ 1000200010000000000
   product_size = omega (arith, times_size a b 1000100000 1000100000 small_a small_b)
 
   pub product_fits : FitsSigned w64 (read a *ℤ read b)
