@@ -1,9 +1,8 @@
 -- Vectors and inner products as they are computed in 64 bits.
-use Rattle.std.proofs.Common.{◌≡◌, ℕ, ◌≤◌, ℤ, ◌+ℤ◌, ◌*ℤ◌, nat_abs, arith, w64, SFits, to_z, of_z}
+use Rattle.std.proofs.Common.{◌≡◌, ℕ, ◌≤◌, ℤ, ◌*◌, ◌+ℤ◌, ◌*ℤ◌, nat_abs, arith, w64, SFits, to_z, of_z}
 use borrow.Author.Differences.{ints}
-use Rattle.std.proofs.lemmas.Int.{to_z-of_z}
 use Rattle.crossing.specs.Line.{line}
-use Rattle.vans.specs.Inner.{product_size}
+use Rattle.crossing.proofs.Ring.{times_size}
 use Rattle.vans.specs.Distances.{coordinate_size}
 use Rattle.vans.specs.declared.vector.Vector.{Vector}
 
@@ -16,12 +15,13 @@ coordinate_kept r p v t is near slow upto =
     let size = coordinate_size p v t near slow upto in
     omega (arith, ints, rw (← is) at size)
 
+-- of two vectors of which no coordinate is too large, so is the inner product
 module _ (a b : Vector) where
-  x_size : nat_abs (a.x *ℤ b.x) ≤ 1000200010000000000
-  x_size = product_size a.x b.x a.near.0 b.near.0
+  x_size : nat_abs (a.x *ℤ b.x) ≤ 1000100000 * 1000100000
+  x_size = times_size a.x b.x 1000100000 1000100000 a.near.0 b.near.0
 
-  y_size : nat_abs (a.y *ℤ b.y) ≤ 1000200010000000000
-  y_size = product_size a.y b.y a.near.1 b.near.1
+  y_size : nat_abs (a.y *ℤ b.y) ≤ 1000100000 * 1000100000
+  y_size = times_size a.y b.y 1000100000 1000100000 a.near.1 b.near.1
 
   parts_kept : read (read a.x *ℤ read b.x) +ℤ read (read a.y *ℤ read b.y) ≡ a.x *ℤ b.x +ℤ a.y *ℤ b.y
   parts_kept =

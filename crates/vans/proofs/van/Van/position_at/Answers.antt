@@ -1,6 +1,4 @@
 use Rattle.std.proofs.Common.{rules}
-use Rattle.std.proofs.lemmas.Grind.{common_steps}
-use Rattle.std.proofs.Common.{arith}
 use Rattle.vans.proofs.Kept.{coordinate_kept}
 use Rattle.vans.proofs.van.Van.position_at.Goals as goal
 
@@ -10,6 +8,6 @@ invariant_of-result c =
     let t = c.args.time in record {
       near = (
         coordinate_kept c.line_at.result v.px v.vx t.number (search rules) v.within.0 v.within.2 t.within,
-        coordinate_kept c.line_at-2.result v.py v.vy t.number (grind (arith, common_steps)) v.within.1 v.within.3 t.within,
+        coordinate_kept c.line_at-2.result v.py v.vy t.number (search rules) v.within.1 v.within.3 t.within,
       );
     }
