@@ -31,9 +31,8 @@ impl PricedCard for FeeCard {
 }
 
 impl FeeCard {
-    // The charge for some coins, at most 1,000,000.
+    // The charge for some coins. It fits 64 bits whatever their number is.
     pub(crate) fn charge_for(&self, coins: u32) -> u64
-        requires { coins ≤ 1000000 }
         ensures value { result ≡ charge self.now coins }
         ensures bound { result ≤ 1000000000000 }
     {

@@ -17,16 +17,11 @@ impl FeeCard {
     pub fn new(opening: u32, rate: u32, cap: u64) -> Result<FeeCard, Refusal>
         ensures { Making opening rate cap result }
     {
-        if opening > HIGHEST_OPENING {
-            return Err(Refusal::OutsideLimits);
+        if opening <= HIGHEST_OPENING && rate <= HIGHEST_RATE && cap <= HIGHEST_CAP {
+            Ok(FeeCard { opening, rate, cap })
+        } else {
+            Err(Refusal::OutsideLimits)
         }
-        if rate > HIGHEST_RATE {
-            return Err(Refusal::OutsideLimits);
-        }
-        if cap > HIGHEST_CAP {
-            return Err(Refusal::OutsideLimits);
-        }
-        Ok(FeeCard { opening, rate, cap })
     }
 
     // What it charges for no coin, unless the cap is lower.

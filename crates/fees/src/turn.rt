@@ -3,8 +3,7 @@
 // While neither cap holds, the difference of the charges moves by the difference of the rates. From the time
 // at which the first cap holds, one charge stands still and the other does not fall. The step that reaches
 // the cap is shorter than the rate, so it may go either way: the turning time lies before it or after it.
-ghost use Rattle.family.specs.Amounts.{TurnsAt};
-ghost use Rattle.fees.specs.Charge.{charge_at, CappedFrom};
+ghost use Rattle.fees.specs.Charge.{CappedFrom};
 
 use crate::card::FeeCard;
 use cards::TurningCard;
@@ -12,30 +11,23 @@ use crossing::next_crossing;
 use family::LAST_TIME;
 
 impl TurningCard for FeeCard {
+    // The time at which the first cap holds, or one before it. By the step to the cap the difference of the
+    // charges falls where this card's charge after it and the other's before it come to less than the others.
     fn turning(&self, other: &FeeCard) -> u32 {
-        turning_time(self, other)
+        let capped = self.capped_from().min(other.capped_from());
+        let Some(uncapped) = capped.checked_sub(1) else {
+            return 0;
+        };
+        let first = self.charge_for(capped) + other.charge_for(uncapped);
+        let second = self.charge_for(uncapped) + other.charge_for(capped);
+        if self.rate > other.rate && first < second {
+            return uncapped;
+        }
+        if self.rate < other.rate && first > second {
+            return uncapped;
+        }
+        capped
     }
-}
-
-// The time at which the first cap holds, or one before it. By the step to the cap the difference of the charges
-// falls where the first card's charge after it and the second's before it come to less than the others.
-fn turning_time(c: &FeeCard, d: &FeeCard) -> u32
-    ensures { TurnsAt charge_at c.now d.now result }
-{
-    let capped = c.capped_from().min(d.capped_from());
-    if capped == 0 {
-        return 0;
-    }
-    let uncapped = capped - 1;
-    let first = c.charge_for(capped) + d.charge_for(uncapped);
-    let second = c.charge_for(uncapped) + d.charge_for(capped);
-    if c.rate > d.rate && first < second {
-        return uncapped;
-    }
-    if c.rate < d.rate && first > second {
-        return uncapped;
-    }
-    capped
 }
 
 impl FeeCard {

@@ -1,8 +1,9 @@
 -- The fills of hoppers as straight lines: how large they are, and how two of them differ.
-use Rattle.std.specs.Prelude.{◌≡◌, ℕ, ◌+◌, ◌-◌, ◌≤◌, ℤ, pos, ◌-ℤ◌, unsigned_abs}
+use Rattle.std.specs.Prelude.{◌≡◌, ℕ, ◌+◌, ◌-◌, ◌≤◌, ℤ, pos, ◌-ℤ◌, Option, unsigned_abs}
 use Rattle.std.proofs.Common.{sym, arith}
-use Rattle.family.specs.Order.{clamp, fact, FewChanges}
+use Rattle.family.specs.Order.{clamp, fact, FewChanges, FirstChange, NextChange}
 use Rattle.family.specs.Amounts.{WithinSize, by_amount, Steady, TurnsAt, Turning}
+use Rattle.family.proofs.Change.{first_change_alike}
 use Rattle.family.proofs.Steady.{steady_alike, few_if_steady}
 use Rattle.crossing.specs.Line.{line, not_negative}
 use Rattle.crossing.proofs.Lines.{line_on, line_minus, line_steady, line_size, order_by_gap}
@@ -42,3 +43,10 @@ gap_tells c d gap drift t u g k after upto =
     let there : t + (u - t) ≡ u = omega arith in
     let gap_is : line gap drift (u - t) ≡ fill_at d u -ℤ fill_at c u = cc in
     order_by_gap fill_at c d u (line gap drift (u - t)) upto gap_is
+
+-- so the first crossing of the gap from there on is the next exchange
+pub exchange_told : (c d : Hopper) (gap drift : ℤ) (t end from upto : ℕ) (r : Option ℕ) → from ≡ clamp t → upto ≡ clamp end
+    → gap ≡ fill_at d from -ℤ fill_at c from → drift ≡ d.rate -ℤ c.rate
+    → FirstChange (λ u. not_negative gap drift (u - from)) from upto r → NextChange (fact (by_amount fill_at) c d) t end r
+exchange_told c d gap drift t end from upto r starts ends g k first =
+    rw (sym starts, sym ends) (first_change_alike _ _ from upto r (λ u after to. gap_tells c d gap drift from u g k after (omega arith)) first)

@@ -1,15 +1,13 @@
 // A hopper's fill at a time, and when two hoppers trade places.
 ghost use Rattle.std.specs.Prelude.{◌≡◌, ◌≤◌, unsigned_abs};
-ghost use Rattle.family.specs.Order.{fact, FirstChange};
-ghost use Rattle.family.specs.Amounts.{by_amount, TurnsAt};
 ghost use Rattle.hoppers.specs.Fill.{fill_at};
-ghost use Rattle.hoppers.specs.Fills.{fills_sized, fills_few, fills_turn};
+ghost use Rattle.hoppers.specs.Fills.{fills_sized, fills_few, fills_turn, turn_anywhere};
 ghost use Rattle.std.proofs.Common.{rules};
 
 use crate::hopper::Hopper;
 use cards::{ExchangingCard, PricedCard, TurningCard};
 use crossing::{line_at, next_crossing};
-use family::LAST_TIME;
+use family::{Span, Time};
 
 impl PricedCard for Hopper {
     ghost amount = { fill_at };
@@ -25,7 +23,7 @@ impl PricedCard for Hopper {
     ghost turns = { fills_turn };
 
     fn amount_at(&self, t: u32) -> i64 {
-        self.fill_after(t.min(LAST_TIME))
+        self.fill_after(Time::from(t))
     }
 
     fn bound() -> u8 {
@@ -34,45 +32,29 @@ impl PricedCard for Hopper {
 }
 
 impl ExchangingCard for Hopper {
+    // The other's fill less this one's moves by the difference of the rates each minute, and this one is at or
+    // before the other while that is not negative.
     fn next_exchange(&self, other: &Hopper, t: u32, end: u32) -> Option<u32> {
-        line_exchange(self, other, t.min(LAST_TIME), end.min(LAST_TIME))
+        let Span { from, end } = Span::new(t, end);
+        let gap = other.fill_after(from) - self.fill_after(from);
+        let drift = i64::from(other.rate) - i64::from(self.rate);
+        next_crossing(gap, drift, from.into(), end.into())
     }
 }
 
 impl TurningCard for Hopper {
     // The difference of two straight lines never turns, so any time will do.
-    fn turning(&self, other: &Hopper) -> u32 {
-        never_turning(self, other, 0)
+    fn turning(&self, _other: &Hopper) -> u32 {
+        0
     }
 }
 
 impl Hopper {
-    // The fill after some minutes, at most 1,000,000.
-    fn fill_after(&self, minutes: u32) -> i64
-        requires { minutes ≤ 1000000 }
-        ensures value { result ≡ fill_at self.now minutes }
+    // The fill at a time.
+    fn fill_after(&self, time: Time) -> i64
+        ensures value { result ≡ fill_at self.now time.number }
         ensures bound { unsigned_abs result ≤ 1001000000000 }
     {
-        line_at(self.fill as i32, self.rate, minutes)
+        line_at(self.fill as i32, self.rate, time.into())
     }
-}
-
-// The next exchange of two hoppers. The second's fill less the first's moves by the difference of the rates
-// each minute, and the first is at or before the second while that is not negative.
-fn line_exchange(c: &Hopper, d: &Hopper, from: u32, end: u32) -> Option<u32>
-    requires starts { from ≤ 1000000 }
-    requires ends { end ≤ 1000000 }
-    ensures { FirstChange (fact (by_amount fill_at) c.now d.now) from end result }
-{
-    let gap = d.fill_after(from) - c.fill_after(from);
-    let drift = i64::from(d.rate) - i64::from(c.rate);
-    next_crossing(gap, drift, from, end)
-}
-
-// Whatever time is passed in is a turning time of two hoppers.
-fn never_turning(c: &Hopper, d: &Hopper, any: u32) -> u32
-    requires { any ≤ 1000000 }
-    ensures { TurnsAt fill_at c.now d.now result }
-{
-    any
 }

@@ -15,23 +15,18 @@ impl Hopper {
     pub fn new(fill: u32, rate: i32, capacity: u32) -> Result<Hopper, Refusal>
         ensures { Making fill rate capacity result }
     {
-        if capacity < 1 {
-            return Err(Refusal::OutsideLimits);
+        if (1..=MOST_COINS).contains(&capacity)
+            && fill <= capacity
+            && rate.unsigned_abs() <= FASTEST
+        {
+            Ok(Hopper {
+                fill,
+                rate,
+                capacity,
+            })
+        } else {
+            Err(Refusal::OutsideLimits)
         }
-        if capacity > MOST_COINS {
-            return Err(Refusal::OutsideLimits);
-        }
-        if fill > capacity {
-            return Err(Refusal::OutsideLimits);
-        }
-        if rate.unsigned_abs() > FASTEST {
-            return Err(Refusal::OutsideLimits);
-        }
-        Ok(Hopper {
-            fill,
-            rate,
-            capacity,
-        })
     }
 
     // The coins in it at opening.

@@ -1,11 +1,12 @@
 -- Squared distances: how large they are, and by what two of them differ.
-use Rattle.std.specs.Prelude.{◌≡◌, ℕ, ◌≤◌, ℤ, ◌-ℤ◌, ◌*ℤ◌, unsigned_abs, refl}
+use Rattle.std.specs.Prelude.{◌≡◌, ℕ, ◌+◌, ◌*◌, ◌≤◌, ℤ, ◌+ℤ◌, ◌-ℤ◌, ◌*ℤ◌, unsigned_abs, refl}
 use Rattle.std.proofs.Common.{arith}
+use Rattle.std.proofs.lemmas.Int.{ints}
 use Rattle.family.specs.Order.{last_time, clamp, FewChanges}
 use Rattle.family.specs.Amounts.{WithinSize, by_amount, Turning}
 use Rattle.family.proofs.Steady.{steady_alike, few_if_turning}
 use Rattle.crossing.specs.Line.{line}
-use Rattle.crossing.proofs.Ring.{square_of_line}
+use Rattle.crossing.proofs.Ring.{times_size, square_of_line}
 use Rattle.crossing.proofs.Lines.{line_size}
 use Rattle.parabola.specs.Height.{height}
 use Rattle.parabola.proofs.Heights.{height_sum, height_difference}
@@ -13,7 +14,10 @@ use Rattle.parabola.proofs.Turns.{height_turns}
 use Rattle.vans.specs.Distance.{square, distance_at}
 use Rattle.vans.specs.Spread.{start_of, tilt_of, bend_of}
 use Rattle.vans.specs.declared.van.Van.{Van}
-use Rattle.vans.specs.Inner.{inner_size}
+
+-- how large an inner product is
+pub inner_size : (ax ay bx by : ℤ) (m n : ℕ) → unsigned_abs ax ≤ m → unsigned_abs ay ≤ m → unsigned_abs bx ≤ n → unsigned_abs by ≤ n → unsigned_abs (ax *ℤ bx +ℤ ay *ℤ by) ≤ m * n + m * n
+inner_size ax ay bx by m n p q r s = omega (arith, ints, times_size ax bx m n p r, times_size ay by m n q s)
 
 -- a coordinate up to the last time
 pub coordinate_size : (p v : ℤ) (t : ℕ) → unsigned_abs p ≤ 100000 → unsigned_abs v ≤ 1000 → t ≤ 1000000 → unsigned_abs (line p v t) ≤ 1000100000

@@ -2,4 +2,3 @@ pub mod Limits
 pub mod Distance
 pub mod Spread
 pub mod Distances
-pub mod Inner

@@ -2,9 +2,8 @@
 //
 // A van at p with velocity v has at time t the squared distance p·p + 2 (p·v) t + (v·v) t², so the distances
 // of two vans differ by a parabola.
-ghost use Rattle.std.specs.Prelude.{◌≡◌, ℕ, ◌≤◌, ◌+ℤ◌, ◌-ℤ◌, ◌*ℤ◌, unsigned_abs};
-ghost use Rattle.family.specs.Order.{fact, NextChange};
-ghost use Rattle.family.specs.Amounts.{by_amount, TurnsAt};
+ghost use Rattle.std.specs.Prelude.{◌≡◌, ℕ, ◌-ℤ◌};
+ghost use Rattle.crossing.specs.Line.{line};
 ghost use Rattle.parabola.specs.Height.{height_of};
 ghost use Rattle.vans.specs.Distance.{distance_at};
 ghost use Rattle.vans.specs.Spread.{start_of, tilt_of, bend_of};
@@ -12,9 +11,10 @@ ghost use Rattle.vans.specs.Distances.{distances_sized, distances_few, distances
 ghost use Rattle.std.proofs.Common.{rules};
 
 use crate::van::Van;
+use crate::vector::Vector;
 use cards::{ExchangingCard, PricedCard, TurningCard};
 use crossing::line_at;
-use family::LAST_TIME;
+use family::Time;
 use parabola::Parabola;
 
 impl PricedCard for Van {
@@ -31,7 +31,7 @@ impl PricedCard for Van {
     ghost turns = { distances_turn };
 
     fn amount_at(&self, t: u32) -> i64 {
-        self.distance_after(t.min(LAST_TIME))
+        self.distance_after(Time::from(t))
     }
 
     fn bound() -> u8 {
@@ -40,92 +40,86 @@ impl PricedCard for Van {
 }
 
 impl ExchangingCard for Van {
+    // This one is at or before the other while the other's distance less this one's is not negative.
     fn next_exchange(&self, other: &Van, t: u32, end: u32) -> Option<u32> {
-        crossing_of_gap(self, other, t, end)
+        self.gap_to(other).next_crossing(t, end)
     }
 }
 
 impl TurningCard for Van {
     fn turning(&self, other: &Van) -> u32 {
-        turning_of_gap(self, other)
-    }
-}
-
-// The first is at or before the second while the second's distance less the first's is not negative.
-fn crossing_of_gap(c: &Van, d: &Van, t: u32, end: u32) -> Option<u32>
-    ensures { NextChange (fact (by_amount distance_at) c.now d.now) t end result }
-{
-    gap(c, d).next_crossing(t, end)
-}
-
-// A turning time of the first's distance less the second's.
-fn turning_of_gap(c: &Van, d: &Van) -> u32
-    ensures { TurnsAt distance_at c.now d.now result }
-{
-    gap(d, c).turning()
-}
-
-// The second's squared distance less the first's.
-fn gap(c: &Van, d: &Van) -> Parabola
-    ensures { (t : ℕ) → height_of result t ≡ distance_at d.now t -ℤ distance_at c.now t }
-{
-    Parabola {
-        start: d.start() - c.start(),
-        tilt: d.tilt() - c.tilt(),
-        bend: d.bend() - c.bend(),
+        other.gap_to(self).turning()
     }
 }
 
 impl Van {
-    // The squared distance after some minutes, at most 1,000,000.
-    fn distance_after(&self, minutes: u32) -> i64
-        requires { minutes ≤ 1000000 }
-        ensures { result ≡ distance_at self.now minutes }
+    // The other's squared distance less this one's.
+    fn gap_to(&self, other: &Van) -> Parabola
+        ensures { (t : ℕ) → height_of result t ≡ distance_at other.now t -ℤ distance_at self.now t }
     {
-        let x = line_at(self.px, i32::from(self.vx), minutes);
-        let y = line_at(self.py, i32::from(self.vy), minutes);
-        inner(x, y, x, y)
+        let own = self.distance();
+        let others = other.distance();
+        Parabola {
+            start: others.start - own.start,
+            tilt: others.tilt - own.tilt,
+            bend: others.bend - own.bend,
+        }
     }
 
-    // The squared distance at opening.
-    fn start(&self) -> i64
-        ensures value { result ≡ start_of self.now }
-        ensures bound { unsigned_abs result ≤ 20000000000 }
+    // The squared distance over time.
+    #[tactic(auto, using(crate::specs::Distances::start_size, crate::specs::Distances::tilt_size, crate::specs::Distances::bend_size))]
+    fn distance(&self) -> Parabola
+        ensures start { result.start ≡ start_of self.now }
+        ensures tilt { result.tilt ≡ tilt_of self.now }
+        ensures bend { result.bend ≡ bend_of self.now }
     {
-        let (x, y) = (i64::from(self.px), i64::from(self.py));
-        inner(x, y, x, y)
+        let position = self.position();
+        let velocity = self.velocity();
+        Parabola {
+            start: position.dot(position),
+            tilt: position.dot(velocity),
+            bend: velocity.dot(velocity),
+        }
     }
 
-    // Half the slope of the squared distance at opening.
-    fn tilt(&self) -> i64
-        ensures value { result ≡ tilt_of self.now }
-        ensures bound { unsigned_abs result ≤ 200000000 }
+    // The squared distance at a time.
+    fn distance_after(&self, time: Time) -> i64
+        ensures { result ≡ distance_at self.now time.number }
     {
-        inner(
-            i64::from(self.px),
-            i64::from(self.py),
-            i64::from(self.vx),
-            i64::from(self.vy),
-        )
+        let position = self.position_at(time);
+        position.dot(position)
     }
 
-    // The squared velocity.
-    fn bend(&self) -> i64
-        ensures value { result ≡ bend_of self.now }
-        ensures bound { unsigned_abs result ≤ 2000000 }
+    // Where it is at a time.
+    fn position_at(&self, time: Time) -> Vector
+        ensures x { result.x ≡ line self.now.px self.now.vx time.number }
+        ensures y { result.y ≡ line self.now.py self.now.vy time.number }
     {
-        let (x, y) = (i64::from(self.vx), i64::from(self.vy));
-        inner(x, y, x, y)
+        Vector {
+            x: line_at(self.px, i32::from(self.vx), time.into()),
+            y: line_at(self.py, i32::from(self.vy), time.into()),
+        }
     }
-}
 
-// The inner product of two vectors, of which no coordinate is larger than a van's can be.
-fn inner(ax: i64, ay: i64, bx: i64, by: i64) -> i64
-    requires ax { unsigned_abs ax ≤ 1000100000 }
-    requires ay { unsigned_abs ay ≤ 1000100000 }
-    requires bx { unsigned_abs bx ≤ 1000100000 }
-    requires by { unsigned_abs by ≤ 1000100000 }
-    ensures { result ≡ ax *ℤ bx +ℤ ay *ℤ by }
-{
-    ax * bx + ay * by
+    // Where it is at opening.
+    fn position(&self) -> Vector
+        ensures x { result.x ≡ self.now.px }
+        ensures y { result.y ≡ self.now.py }
+    {
+        Vector {
+            x: i64::from(self.px),
+            y: i64::from(self.py),
+        }
+    }
+
+    // How far it goes in a minute.
+    fn velocity(&self) -> Vector
+        ensures x { result.x ≡ self.now.vx }
+        ensures y { result.y ≡ self.now.vy }
+    {
+        Vector {
+            x: i64::from(self.vx),
+            y: i64::from(self.vy),
+        }
+    }
 }

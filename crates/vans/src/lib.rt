@@ -7,6 +7,7 @@
 mod exchange;
 mod make;
 mod van;
+mod vector;
 
 use cards::ByAmount;
 use slots::Slots;

@@ -15,19 +15,15 @@ impl Van {
     pub fn new(px: i32, py: i32, vx: i16, vy: i16) -> Result<Van, Refusal>
         ensures { Making px py vx vy result }
     {
-        if px.unsigned_abs() > FARTHEST {
-            return Err(Refusal::OutsideLimits);
+        if px.unsigned_abs() <= FARTHEST
+            && py.unsigned_abs() <= FARTHEST
+            && vx.unsigned_abs() <= FASTEST
+            && vy.unsigned_abs() <= FASTEST
+        {
+            Ok(Van { px, py, vx, vy })
+        } else {
+            Err(Refusal::OutsideLimits)
         }
-        if py.unsigned_abs() > FARTHEST {
-            return Err(Refusal::OutsideLimits);
-        }
-        if vx.unsigned_abs() > FASTEST {
-            return Err(Refusal::OutsideLimits);
-        }
-        if vy.unsigned_abs() > FASTEST {
-            return Err(Refusal::OutsideLimits);
-        }
-        Ok(Van { px, py, vx, vy })
     }
 
     // Where it is at opening, the first coordinate.
