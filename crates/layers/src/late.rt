@@ -78,8 +78,9 @@ impl<F: Family> Family for LateStart<F> {
 
     // The exchange here is that below of the times moved on by the delay, moved back again.
     fn next_exchange(&self, i: u8, j: u8, t: u32, end: u32) -> Option<u32> {
-        let later = self.below.next_exchange(i, j, t.saturating_add(self.delay), end.saturating_add(self.delay))?;
-        Some(later - self.delay)
+        self.below
+            .next_exchange(i, j, t.saturating_add(self.delay), end.saturating_add(self.delay))
+            .map(|later| later - self.delay)
     }
 
     fn bound(&self) -> u8 {
