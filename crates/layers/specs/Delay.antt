@@ -3,7 +3,7 @@ use Rattle.std.specs.Prelude.{◌≡◌, ℕ, ◌+◌, ◌-◌, ◌≤◌, Bool,
 use Rattle.std.specs.Option.{option_map}
 use Rattle.std.proofs.Common.{sym, ap, ◌∙◌, ⊎_elim, arith}
 use Rattle.std.proofs.lemmas.Bool.{cases_lt}
-use Rattle.family.specs.Order.{Order, clamp, fact, Changes, FewChanges, FirstChange, NextChange}
+use Rattle.family.specs.Order.{Order, clamp, fact, Changes, FewChanges, NextChange}
 use Rattle.family.specs.Slots.{Cards, holding_before, slot_before}
 use Rattle.family.proofs.Change.{first_change_alike}
 use Rattle.family.proofs.Holdings.{holdings_alike}
