@@ -1,37 +1,34 @@
 -- First changes on the two sides of a turning time.
-use Rattle.std.proofs.Common.{◌≡◌, ℕ, ◌+◌, ◌≤◌, Bool, not, ◌-ℤ◌, Some, sym, ap, ◌∙◌, arith}
-use Rattle.family.specs.Order.{last_time, FirstChange}
+use Rattle.std.proofs.Common.{◌≡◌, ℕ, ◌≤◌, min, Bool, ◌-ℤ◌, Some, None, Option, refl, arith}
+use Rattle.family.specs.Order.{last_time, clamp, FirstChange, NextChange}
 use Rattle.family.specs.Slots.{Cards}
-use Rattle.family.specs.Amounts.{Amount, Steady}
-use Rattle.family.proofs.Change.{constant_between}
+use Rattle.family.specs.Amounts.{Amount, Steady, TurnsAt}
+use Rattle.family.proofs.Change.{first_change_from, first_change_upto}
 use Rattle.family.proofs.Steady.{lasts}
 use Rattle.adapter.specs.Parts.{no_larger, ChangesOnce}
 
--- a part of a part
-pub once_within : (p : ℕ → Bool) (a b x y : ℕ) → a ≤ x → y ≤ b → ChangesOnce p a b → ChangesOnce p x y
-once_within p a b x y from upto once = (once.0, λ t u (t_from, t_upto) (u_from, u_upto) on is. once.1 t u (omega arith, omega arith) (omega arith, omega arith) on is)
+-- the first change is that of the first part, or else that of the second
+first_on_either_side : (p : ℕ → Bool) (a m b : ℕ) (early r : Option ℕ) → min a b ≤ m → m ≤ b → FirstChange p a m early
+    → (early ≡ None → FirstChange p m b r) → ((u : ℕ) → early ≡ Some u → r ≡ Some u) → FirstChange p a b r
+first_on_either_side p a m b (Some u) r from upto first _ same = rw (same u refl) (first_change_upto p a m b u upto first)
+first_on_either_side p a m b None None from upto first late _ = let later = late refl in λ u above below. grind (arith, later u, first u)
+first_on_either_side p a m b None (Some w) from upto first late _ = first_change_from p a m b (Some w) (omega (arith, late refl)) first (late refl)
 
--- where the two ends are alike, so is all between them
-pub once_alike : (p : ℕ → Bool) (a b : ℕ) → ChangesOnce p a b → p b ≡ p a → (u : ℕ) → a ≤ u → u ≤ b → p u ≡ p a
-once_alike p a b once ends u from upto =
-    constant_between (λ t. (a ≤ t) × (t ≤ b)) once.0 p once.1 a u b (omega arith, omega arith) (from, upto) (omega arith, omega arith) from upto ends
+pub next_on_either_side : (p : ℕ → Bool) (t end a m b : ℕ) (early r : Option ℕ) → a ≡ clamp t → b ≡ clamp end → min a b ≤ m → m ≤ b
+    → FirstChange p a m early → (early ≡ None → FirstChange p m b r) → ((u : ℕ) → early ≡ Some u → r ≡ Some u) → NextChange p t end r
+next_on_either_side p t end a m b early r a_is b_is from upto first late same =
+    rw (a_is, b_is) at (first_on_either_side p a m b early r from upto first late same)
 
--- a time that still is as the start, next to one that is not: that one is the first
-pub first_next_to : (p : ℕ → Bool) (held : Bool) (a b w u : ℕ) → ChangesOnce p a b → p a ≡ held → a ≤ w → u ≡ w + 1 → u ≤ b → p w ≡ held → p u ≡ not held
-    → FirstChange p a b (Some u)
-first_next_to p held a b w u once start from next upto same differs = (
-  omega arith,
-  upto,
-  differs ∙ ap not (sym start),
-  λ v above below. once_alike p a w (once_within p a b a w (omega arith) (omega arith) once) (same ∙ sym start) v (omega arith) (omega arith),
-)
+-- where the difference of two cards is steady, the order of the slots that hold them changes once: so it does on
+-- each side of their turning time
+module _ {C : Type 0} (amount : Amount C) (cards : Cards C) (i j : ℕ) (c d : C) (at_i : cards i ≡ Some c) (at_j : cards j ≡ Some d) where
+  once_if_steady : (a b : ℕ) → b ≤ last_time → Steady (λ t. amount c t -ℤ amount d t) a b → ChangesOnce (no_larger amount cards i j) a b
+  once_if_steady a b upto steady =
+      let l = lasts amount c d a b steady in
+      rw (at_i, at_j) (
+        l.0,
+        λ t u (t_from, t_upto) (u_from, u_upto) on is. l.1 t u (omega arith, omega arith) (omega arith, omega arith) on is,
+      )
 
--- where the difference of two cards is steady, the order of the slots that hold them changes once
-pub once_by_turning : {C : Type 0} (amount : Amount C) (cards : Cards C) (i j : ℕ) (c d : C) (a b : ℕ) → cards i ≡ Some c → cards j ≡ Some d
-    → b ≤ last_time → Steady (λ t. amount c t -ℤ amount d t) a b → ChangesOnce (no_larger amount cards i j) a b
-once_by_turning amount cards i j c d a b at_i at_j upto steady =
-    let l = lasts amount c d a b steady in
-    rw (at_i, at_j) (
-      l.0,
-      λ t u (t_from, t_upto) (u_from, u_upto) on is. l.1 t u (omega arith, omega arith) (omega arith, omega arith) on is,
-    )
+  pub once_on_each_side : (m : ℕ) → TurnsAt amount c d m → ChangesOnce (no_larger amount cards i j) 0 m × ChangesOnce (no_larger amount cards i j) m last_time
+  once_on_each_side m (within, early, late) = (once_if_steady 0 m within early, once_if_steady m last_time (omega arith) late)

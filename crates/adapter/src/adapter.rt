@@ -3,7 +3,7 @@ ghost use Rattle.family.specs.Amounts.{by_amount};
 ghost use Rattle.family.proofs.Steady.{few_if_turning};
 ghost use Rattle.std.proofs.Common.{rules};
 
-use crate::halving::exchange_by_halving;
+use crate::halving::next_change;
 use family::{CardSlots, Family, Priced, PricedFamily, Refusal, TurningFamily};
 
 // The priced family of a turning family, with the cards that are in it.
@@ -50,7 +50,10 @@ impl<T: TurningFamily> Family for Adapter<T> {
     }
 
     fn next_exchange(&self, i: u8, j: u8, t: u32, end: u32) -> Option<u32> {
-        exchange_by_halving(&self.0, i, j, t, end)
+        let c = self.0.card(i)?;
+        let d = self.0.card(j)?;
+        let turning = self.0.turning(c, d);
+        next_change(|u| self.0.in_order(i, j, u), turning, t, end)
     }
 
     fn bound(&self) -> u8 {

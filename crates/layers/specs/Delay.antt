@@ -1,9 +1,11 @@
 -- The facts of a late start are those below, moved by the delay.
 use Rattle.std.specs.Prelude.{◌≡◌, ℕ, ◌+◌, ◌-◌, ◌≤◌, Bool, not, List, [], ◌∷◌, length, Some, None, Option, refl}
+use Rattle.std.specs.Option.{option_map}
 use Rattle.std.proofs.Common.{sym, ap, ◌∙◌, ⊎_elim, arith}
 use Rattle.std.proofs.lemmas.Bool.{cases_lt}
-use Rattle.family.specs.Order.{Order, clamp, fact, Changes, FewChanges, FirstChange}
-use Rattle.family.specs.Slots.{holding_before}
+use Rattle.family.specs.Order.{Order, clamp, fact, Changes, FewChanges, NextChange}
+use Rattle.family.specs.Slots.{Cards, holding_before, slot_before}
+use Rattle.family.proofs.Change.{first_change_alike}
 use Rattle.family.proofs.Holdings.{holdings_alike}
 use Rattle.layers.specs.Mirrored.{turned}
 use Rattle.layers.specs.Delayed.{delayed}
@@ -45,33 +47,37 @@ still_past_end before h k t =
     holdings_alike before before t (clamp t) (λ c d. ap (before c d) e) h k
 
 -- the first change of a late start is that below from s to e, moved back
-module _ {C : Type 0} (delay : ℕ) (before : Order C) (h k : Option C) (t end s e : ℕ) (from : s ≡ clamp (t + delay)) (upto : e ≡ clamp (end + delay)) where
-  is : (u : ℕ) → holding_before (delayed delay before) h k u ≡ holding_before before h k (u + delay)
-  is = moved_holding delay before h k
+module _ {C : Type 0} (delay : ℕ) (before : Order C) (cards : Cards C) (i j t end s e : ℕ) (s_is : clamp s ≡ clamp (t + delay)) (e_is : clamp e ≡ clamp (end + delay)) where
+  is : (u : ℕ) → slot_before (delayed delay before) cards i j u ≡ slot_before before cards i j (u + delay)
+  is = moved_holding delay before (cards i) (cards j)
 
-  pub moved_none : FirstChange (holding_before before h k) s e None → FirstChange (holding_before (delayed delay before) h k) (clamp t) (clamp end) None
-  moved_none first = λ u above below.
-      let p = holding_before before h k in
-      let here : holding_before (delayed delay before) h k (clamp t) ≡ p s = is (clamp t) ∙ still_past_end before h k (clamp t + delay) ∙ ap p (omega arith) in
-      let there = is u ∙ still_past_end before h k (u + delay) in
+  start : slot_before (delayed delay before) cards i j (clamp t) ≡ slot_before before cards i j (clamp s)
+  start = is (clamp t) ∙ still_past_end before (cards i) (cards j) (clamp t + delay) ∙ ap (slot_before before cards i j) (omega arith)
+
+  pub moved_exchange : (below r : Option ℕ) → NextChange (slot_before before cards i j) s e below → r ≡ option_map (λ w. w - delay) below
+      → NextChange (slot_before (delayed delay before) cards i j) t end r
+  moved_exchange None r first back = rw back (λ u above upto.
+      let there = is u ∙ still_past_end before (cards i) (cards j) (u + delay) in
       ⊎_elim
-      (λ later. there ∙ first (clamp (u + delay)) later (omega arith) ∙ sym here)
-      (λ level. there ∙ ap p (omega arith) ∙ sym here)
-      (cases_lt s (clamp (u + delay)))
-
-  pub moved_some : (w : ℕ) → FirstChange (holding_before before h k) s e (Some w) → FirstChange (holding_before (delayed delay before) h k) (clamp t) (clamp end) (Some (w - delay))
-  moved_some w (above, below, differs, same) =
-      let p = holding_before before h k in
-      let here : holding_before (delayed delay before) h k (clamp t) ≡ p s = is (clamp t) ∙ ap p (omega arith) in (
-        omega arith,
-        omega arith,
-        is (w - delay) ∙ ap p (omega arith) ∙ differs ∙ ap not (sym here),
-        λ v a b. is v ∙ same (v + delay) (omega arith) (omega arith) ∙ sym here,
-      )
+      (λ later. there ∙ first (clamp (u + delay)) later (omega arith) ∙ sym start)
+      (λ level. there ∙ ap (slot_before before cards i j) (omega arith) ∙ sym start)
+      (cases_lt (clamp s) (clamp (u + delay))))
+  moved_exchange (Some w) r (above, upto, differs, same) back = rw back (
+    omega arith,
+    omega arith,
+    is (w - delay) ∙ ap (slot_before before cards i j) (omega arith) ∙ differs ∙ ap not (sym start),
+    λ v a b. is v ∙ same (v + delay) (omega arith) (omega arith) ∙ sym start,
+  )
 
 -- a late start of a mirror of a late start is the mirror of one late start by both delays
-pub piled_holding : {C : Type 0} (first second : ℕ) (before : Order C) (h k : Option C) (t : ℕ)
+piled_holding : {C : Type 0} (first second : ℕ) (before : Order C) (h k : Option C) (t : ℕ)
     → holding_before (delayed second (turned (delayed first before))) h k t ≡ holding_before (turned (delayed (first + second) before)) h k t
 piled_holding first second before h k t =
     let e : clamp (clamp (clamp t + second) + first) ≡ clamp (clamp t + (first + second)) = omega arith in
     holdings_alike (delayed second (turned (delayed first before))) (turned (delayed (first + second) before)) t t (λ c d. ap (before d c) e) h k
+
+pub piled_exchange : {C : Type 0} (first second : ℕ) (before : Order C) (cards : Cards C) (i j t end : ℕ) (r : Option ℕ)
+    → NextChange (slot_before (delayed second (turned (delayed first before))) cards i j) t end r
+    → NextChange (slot_before (turned (delayed (first + second) before)) cards i j) t end r
+piled_exchange first second before cards i j t end r =
+    first_change_alike _ _ (clamp t) (clamp end) r (λ u _ _. piled_holding first second before (cards i) (cards j) u)

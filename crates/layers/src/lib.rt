@@ -3,7 +3,6 @@
 #![tactic(auto)]
 
 mod late;
-mod late_priced;
 mod mirror;
 mod negate;
 mod pile;

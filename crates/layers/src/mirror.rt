@@ -47,13 +47,11 @@ impl<F: Family> Family for Mirror<F> {
 
     // An empty slot comes last here as it does below, so only filled ones are turned round.
     fn compare(&self, i: u8, j: u8, t: u32) -> bool {
-        if self.0.card(j).is_none() {
-            return true;
+        match (self.0.card(i), self.0.card(j)) {
+            (_, None) => true,
+            (None, _) => false,
+            _ => self.0.compare(j, i, t),
         }
-        if self.0.card(i).is_none() {
-            return false;
-        }
-        self.0.compare(j, i, t)
     }
 
     // The exchange here is that below of the pair turned round. Where a slot is empty, neither fact ever changes.
@@ -72,8 +70,7 @@ impl<F: Priced> Priced for Mirror<F> {
     ghost sized = { Prim.search rules };
 
     fn amount_at(&self, slot: u8, t: u32) -> Option<i64> {
-        let amount = self.0.amount_at(slot, t)?;
-        Some(-amount)
+        self.0.amount_at(slot, t).map(|amount| -amount)
     }
 
     fn amounts(&self, slot: u8, first: u32, cells: &mut [i64]) -> Result<(), Refusal> {
