@@ -5,7 +5,7 @@ use Rattle.family.specs.declared.refusal.Refusal.{Refusal}
 use Rattle.family.specs.Refusals.{number_of, reason_of}
 use Rattle.fullest.specs.declared.reading.Attempt.{Attempt}
 use Rattle.fullest.specs.declared.Standing.{Standing}
-use Rattle.fullest.specs.declared.stretch.Stretch.{Stretch}
+use Rattle.fullest.specs.declared.stretch.PricedStretch.{PricedStretch}
 
 -- set up, or the refusal by its number and in words
 abbrev pub answer_text : Result Unit Refusal → List ℕ
@@ -23,7 +23,7 @@ standing_text s =
     ++ (signed_decimal s.hopper.rate ++ codes " a minute")))))
 
 -- the amount is that of a mirror, and so a fill with its sign turned
-abbrev pub stretch_text : Stretch → List ℕ
+abbrev pub stretch_text : PricedStretch → List ℕ
 stretch_text s =
-    codes "minutes " ++ (decimal s.first ++ (codes " to " ++ (decimal s.last ++ (codes ": slot " ++ (decimal s.slot
-    ++ (codes ", with " ++ (signed_decimal (neg_ℤ s.amount) ++ (codes " coins at minute " ++ decimal s.first))))))))
+    codes "minutes " ++ (decimal s.stretch.first ++ (codes " to " ++ (decimal s.stretch.last ++ (codes ": slot " ++ (decimal s.stretch.slot
+    ++ (codes ", with " ++ (signed_decimal (neg_ℤ s.amount) ++ (codes " coins at minute " ++ decimal s.stretch.first))))))))

@@ -5,7 +5,7 @@ ghost use Rattle.fullest.specs.Stretches.{Chart};
 
 use crate::chart::stretches;
 use crate::reading::{Attempt, Reading};
-use crate::stretch::Stretch;
+use crate::stretch::PricedStretch;
 use family::{Family, PricedFamily};
 use hoppers::Hopper;
 use std::alloc::{AllocError, Global};
@@ -14,7 +14,7 @@ use std::alloc::{AllocError, Global};
 pub struct Account<F> {
     pub attempts: Vec<Attempt>,
     pub family: F,
-    pub stretches: Vec<Stretch>,
+    pub stretches: Vec<PricedStretch>,
 }
 
 impl<F: PricedFamily<Card = Hopper> + Drop> Account<F> {

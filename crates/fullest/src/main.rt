@@ -13,7 +13,7 @@ use reading::Attempt;
 use sample::SAMPLE;
 use slots::Slots;
 use std::fmt;
-use stretch::Stretch;
+use stretch::PricedStretch;
 
 mod account;
 mod chart;
@@ -109,13 +109,13 @@ impl fmt::Display for Standing {
     }
 }
 
-impl fmt::Display for Stretch {
+impl fmt::Display for PricedStretch {
     ghost output = { λ s. Some (stretch_text s) };
 
     fn fmt<W: fmt::Write>(&self, f: &mut fmt::Formatter<W>) -> fmt::Result {
-        let first = self.first;
-        let last = self.last;
-        let slot = self.slot;
+        let first = self.stretch.first;
+        let last = self.stretch.last;
+        let slot = self.stretch.slot;
         let fill = turned_back(self.amount);
         write!(
             f,
