@@ -14,6 +14,9 @@ every_slot k = true
 abbrev pub Stands : {C : Type 0} → Cards C → SlotSet → ℕ → Type 0
 Stands cards set k = (k < 256) × (set k ≡ true) × (is_some (cards k) ≡ true)
 
+abbrev pub NoneStands : {C : Type 0} → Cards C → SlotSet → Type 0
+NoneStands cards set = (k : ℕ) → Stands cards set k → ⊥
+
 module _ {C : Type 0} (before : Order C) (cards : Cards C) where
   -- slot i beats slot j at t if i is at or before j, and i is the lower slot or j is not at or before i
   abbrev pub Beats : ℕ → ℕ → ℕ → Type 0
@@ -25,7 +28,7 @@ module _ {C : Type 0} (before : Order C) (cards : Cards C) where
 
   -- the leader of a set: the filled slot in it that beats every other filled one, none where all are empty
   abbrev pub Leader : SlotSet → ℕ → Option ℕ → Type 0
-  Leader set t None = (k : ℕ) → Stands cards set k → ⊥
+  Leader set t None = NoneStands cards set
   Leader set t (Some i) = Stands cards set i × ((k : ℕ) → Ahead set t i k)
 
   -- The leader told by going through the slots in rising order: a card that stands takes the lead from the

@@ -6,7 +6,8 @@ use Rattle.std.specs.Iterator.{Yields, DrainsIf}
 use Rattle.family.specs.Order.{last_time, Order}
 use Rattle.family.specs.Slots.{Cards}
 use Rattle.family.specs.Amounts.{Amount, amount_of}
-use Rattle.fullest.specs.Stretches.{Following, Leading, NoneStands, Chart, Told}
+use Rattle.envelope.specs.Lead.{every_slot, NoneStands}
+use Rattle.fullest.specs.Stretches.{Following, Leading, Chart, Told}
 use Rattle.fullest.specs.declared.stretch.PricedStretch.{PricedStretch}
 
 -- a card that stands has an amount
@@ -23,21 +24,18 @@ module _ {C F S : Type 0} (before : F → Order C) (cards : F → Cards C) (amou
     abbrev LeadsIn : PricedStretch → Type 0
     LeadsIn = Leading (before f) (cards f) (amount f)
 
-    abbrev Nobody : Type 0
-    Nobody = NoneStands (before f) (cards f) (amount f)
-
     told : (s t u : S) (ss : List PricedStretch) → Yields Turn s ss t → Turn t None u → family s ≡ f → first s ≤ last_time + 1
-        → AllByRecursion LeadsIn ss × (Following (first s) ss (last_time + 1) ⊎ Nobody)
+        → AllByRecursion LeadsIn ss × (Following (first s) ss (last_time + 1) ⊎ NoneStands (cards f) every_slot)
     told s t u [] here (_, over) is upto = (
       tt,
-      ⊎_elim (λ past. let at : first s ≡ first t = ap first here in inl (omega arith)) (λ none. inr (subst (λ h. NoneStands (before h) (cards h) (amount h)) (ap family (sym here) ∙ is) none)) over,
+      ⊎_elim (λ past. let at : first s ≡ first t = ap first here in inl (omega arith)) (λ none. inr (subst (λ h. NoneStands (cards h) every_slot) (ap family (sym here) ∙ is) none)) over,
     )
     told s t u (x ∷ xs) (j, (same, (from, leads, next)), later) over is upto =
         let leads' : LeadsIn x = subst (λ h. Leading (before h) (cards h) (amount h) x) is leads in
         let (all, end) = told j t u xs later over (same ∙ is) (omega (arith, next, leads.0.1)) in
         ((leads', all), ⊎_elim (λ follows. inl (from, rw next at follows)) (λ none. inr none) end)
 
-    charted : (ss : List PricedStretch) → AllByRecursion LeadsIn ss → Following 0 ss (last_time + 1) ⊎ Nobody → Chart (before f) (cards f) (amount f) ss
+    charted : (ss : List PricedStretch) → AllByRecursion LeadsIn ss → Following 0 ss (last_time + 1) ⊎ NoneStands (cards f) every_slot → Chart (before f) (cards f) (amount f) ss
     charted [] all (inr none) = inl (refl, none)
     charted (s ∷ ss) all (inr none) = let (on, _, leads, _) = all.0.0 in absurd (none s.stretch.slot (leads s.stretch.first (omega arith) on).0)
     charted ss all (inl follows) = inr (follows, all)

@@ -4,7 +4,7 @@ use Rattle.std.specs.List.{AllByRecursion}
 use Rattle.family.specs.Order.{last_time, Order}
 use Rattle.family.specs.Slots.{Cards}
 use Rattle.family.specs.Amounts.{Amount, amount_of}
-use Rattle.envelope.specs.Lead.{every_slot, Stands, Leader}
+use Rattle.envelope.specs.Lead.{every_slot, NoneStands, Leader}
 use Rattle.fullest.specs.Lasting.{Lasting}
 use Rattle.fullest.specs.declared.stretch.PricedStretch.{PricedStretch}
 
@@ -20,14 +20,11 @@ module _ {C : Type 0} (before : Order C) (cards : Cards C) (amount : Amount C) w
       Lasting (λ v. Leader before cards every_slot v (Some s.stretch.slot)) s.stretch.first s.stretch.last
       × (amount_of amount (cards s.stretch.slot) s.stretch.first ≡ Some s.amount)
 
-  abbrev pub NoneStands : Type 0
-  NoneStands = (k : ℕ) → Stands cards every_slot k → ⊥
-
   -- the longest stretches, one after the other, from 0 to the last time; none where no card stands
   abbrev pub Chart : List PricedStretch → Type 0
-  Chart ss = ((ss ≡ []) × NoneStands) ⊎ (Following 0 ss (last_time + 1) × AllByRecursion Leading ss)
+  Chart ss = ((ss ≡ []) × NoneStands cards every_slot) ⊎ (Following 0 ss (last_time + 1) × AllByRecursion Leading ss)
 
-  -- the next stretch is the one that begins at first, and next follows its end; none past the last time, nor where no card stands
+  -- the stretch that begins at first, and the time after its end; none past the last time, nor where no card stands
   abbrev pub Told : ℕ → Option PricedStretch → ℕ → Type 0
-  Told first None next = (last_time < first) ⊎ NoneStands
+  Told first None next = (last_time < first) ⊎ NoneStands cards every_slot
   Told first (Some s) next = (s.stretch.first ≡ first) × Leading s × (next ≡ s.stretch.last + 1)

@@ -1,6 +1,6 @@
 // Who leads a family at a time, and how long.
-ghost use Rattle.std.specs.Prelude.{◌≡◌, ℕ, Some, None, MatchOption};
-ghost use Rattle.envelope.specs.Lead.{every_slot, Stands, Ahead, Leader, leader_of};
+ghost use Rattle.std.specs.Prelude.{◌≡◌, Some, MatchOption};
+ghost use Rattle.envelope.specs.Lead.{every_slot, NoneStands, Ahead, Leader, leader_of};
 ghost use Rattle.fullest.specs.Lasting.{Lasting};
 
 use family::{CardSlots, Family, LAST_TIME, Time};
@@ -8,16 +8,16 @@ use family::{CardSlots, Family, LAST_TIME, Time};
 // The slot that leads a family from a time on.
 #[derive(Drop)]
 pub struct Lead<'a, F: Family> {
-    pub family: &'a F,
+    family: &'a F,
     pub slot: u8,
-    pub since: Time,
+    since: Time,
     ghost leads: { leader_of (F.before family.now) (F.slots family.now) every_slot since.number ≡ Some slot },
 }
 
 impl<'a, F: Family> Lead<'a, F> {
     // The leader at a time, or none where no card stands. Level cards go to the lowest slot.
     pub fn at(family: &'a F, since: Time) -> Option<Lead<'a, F>>
-        ensures { MatchOption result ((k : ℕ) → Stands (F.slots family.now) every_slot k → ⊥) (λ l. (l.family.now ≡ family.now) × (l.since ≡ since)) }
+        ensures { MatchOption result (NoneStands (F.slots family.now) every_slot) (λ l. (l.family.now ≡ family.now) × (l.since ≡ since)) }
     {
         let slot = leader(family, since)?;
         Some(Lead {
@@ -44,7 +44,7 @@ impl<'a, F: Family> Lead<'a, F> {
     {
         let (lower, higher) = (self.slot.min(k), self.slot.max(k));
         self.family
-            .next_exchange(lower, higher, self.since.into(), LAST_TIME)
+            .next_exchange(lower, higher, u32::from(self.since), LAST_TIME)
             .map_or(LAST_TIME, |change| change - 1)
     }
 }
@@ -53,12 +53,8 @@ impl<'a, F: Family> Lead<'a, F> {
 fn leader<F: Family>(family: &F, t: Time) -> Option<u8>
     ensures { result ≡ leader_of (F.before family.now) (F.slots family.now) every_slot t.number }
 {
-    let t = t.into();
-    (0..=255u8).filter(|k| family.card(*k).is_some()).reduce(|best, k| if family.compare(
-        best, k, t,
-    ) {
-        best
-    } else {
-        k
-    })
+    let t = u32::from(t);
+    let stands = |k: &u8| family.card(*k).is_some();
+    let ahead = |best, k| if family.compare(best, k, t) { best } else { k };
+    (0..=255u8).filter(stands).reduce(ahead)
 }
