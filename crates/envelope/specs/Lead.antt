@@ -14,15 +14,22 @@ every_slot k = true
 abbrev pub Stands : {C : Type 0} → Cards C → SlotSet → ℕ → Type 0
 Stands cards set k = (k < 256) × (set k ≡ true) × (is_some (cards k) ≡ true)
 
+abbrev pub NoneStands : {C : Type 0} → Cards C → SlotSet → Type 0
+NoneStands cards set = (k : ℕ) → Stands cards set k → ⊥
+
 module _ {C : Type 0} (before : Order C) (cards : Cards C) where
   -- slot i beats slot j at t if i is at or before j, and i is the lower slot or j is not at or before i
   abbrev pub Beats : ℕ → ℕ → ℕ → Type 0
   Beats t i j = (slot_before before cards i j t ≡ true) × ((i < j) ⊎ (slot_before before cards j i t ≡ false))
 
+  -- i beats k, unless no card of the set stands in k or k is i itself
+  abbrev pub Ahead : SlotSet → ℕ → ℕ → ℕ → Type 0
+  Ahead set t i k = Stands cards set k → k ≢ i → Beats t i k
+
   -- the leader of a set: the filled slot in it that beats every other filled one, none where all are empty
   abbrev pub Leader : SlotSet → ℕ → Option ℕ → Type 0
-  Leader set t None = (k : ℕ) → Stands cards set k → ⊥
-  Leader set t (Some i) = Stands cards set i × ((k : ℕ) → Stands cards set k → k ≢ i → Beats t i k)
+  Leader set t None = NoneStands cards set
+  Leader set t (Some i) = Stands cards set i × ((k : ℕ) → Ahead set t i k)
 
   -- The leader told by going through the slots in rising order: a card that stands takes the lead from the
   -- slots below it unless their leader is at or before it.

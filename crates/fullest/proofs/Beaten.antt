@@ -1,85 +1,87 @@
--- Until when a leader beats another slot.
-use Rattle.std.proofs.Common.{◌≡◌, ℕ, ◌+◌, ◌<◌, ◌≤◌, Bool, true, false, ◌||◌, is_some, Some, None, Option, refl, inl, inr, ⊎_elim, arith, below_more}
-use Rattle.std.proofs.lemmas.Bool.{both_ways, false≢true, true≢false, cases_Bool, cases_eq}
-use Rattle.family.specs.Order.{Order, TotalPreorder, FirstChange, fact}
+-- How long a leader stays ahead of another slot, and of all.
+use Rattle.std.proofs.Common.{◌≡◌, ℕ, ◌+◌, ◌-◌, ◌<◌, ◌≤◌, min, max, Bool, true, false, not, is_some, Some, None, Option, sym, refl, ◌∙◌, subst, inl, ⊎_elim, arith}
+use Rattle.std.specs.Option.{option_map_or}
+use Rattle.std.proofs.lemmas.Bool.{false≢true, true≢false, cases_Bool, cases_eq, cases_lt}
+use Rattle.family.specs.Order.{Order, TotalPreorder, FirstChange}
 use Rattle.family.specs.Slots.{Cards, slot_before, holding_before}
-use Rattle.fullest.specs.Lead.{Ahead, Leader}
-use Rattle.fullest.specs.Stretches.{HoldsUntil, earlier_of}
-use Rattle.fullest.proofs.Until.{until_change, until_both, until_alike}
+use Rattle.envelope.specs.Lead.{every_slot, Stands, NoneStands, Ahead, Leader, leader_of}
+use Rattle.envelope.proofs.Lead.{holdings_total, higher_wins, leader_exists}
+use Rattle.fullest.specs.Lasting.{Lasting}
+
+opposite : {X : Type 0} (x : Bool) → x ≡ not x → X
+opposite true e = absurd (true≢false e)
+opposite false e = absurd (false≢true e)
+
+-- P holds exactly where the fact p is b: it lasts until p changes
+lasts : (p : ℕ → Bool) (P : ℕ → Type 0) (b : Bool) (t : ℕ) (r : Option ℕ) → t ≤ 1000000 → P t
+    → ((v : ℕ) → P v → p v ≡ b) → ((v : ℕ) → p v ≡ b → P v) → FirstChange p t 1000000 r → Lasting P t (option_map_or (λ u. u - 1) r 1000000)
+lasts p P b t None upto holds to back first = (
+  upto,
+  omega arith,
+  λ v after end. ⊎_elim (λ later. back v (first v later end ∙ to t holds)) (λ at. let e : v ≡ t = omega arith in rw e holds) (cases_lt t v),
+  λ past _. omega arith,
+)
+lasts p P b t (Some u) upto holds to back (later, end, differs, same) =
+    let on : (u - 1) + 1 ≡ u = omega arith in (
+      omega arith,
+      omega arith,
+      λ v after end. ⊎_elim (λ later. back v (same v later (omega arith) ∙ to t holds)) (λ at. let e : v ≡ t = omega arith in rw e holds) (cases_lt t v),
+      λ _ again. opposite (p t) (to t holds ∙ sym (to u (subst P on again)) ∙ differs),
+    )
 
 module _ {C : Type 0} (before : Order C) (ordered : TotalPreorder before) where
-  either_way : (x y : Bool) → (x || y) ≡ true → y ≡ false → x ≡ true
-  either_way true y _ _ = refl
-  either_way false y e f = absurd (both_ways y f e)
-
-  -- where the other is not at or before a filled slot, that is at or before the other
-  not_after : (h k : Option C) (v : ℕ) → is_some h ≡ true → holding_before before k h v ≡ false → holding_before before h k v ≡ true
-  not_after (Some c) (Some d) v _ e = either_way (fact before c d v) (fact before d c v) (ordered.total c d v) e
-  not_after (Some c) None v _ _ = refl
-  not_after None k v e _ = absurd (false≢true e)
-
-  -- only a filled slot is at or before a filled one
-  earlier_filled : (h k : Option C) (v : ℕ) → is_some h ≡ true → holding_before before k h v ≡ true → is_some k ≡ true
-  earlier_filled (Some c) (Some d) v _ _ = refl
-  earlier_filled (Some c) None v _ e = absurd (false≢true e)
-  earlier_filled None k v e _ = absurd (false≢true e)
-
-  -- an empty slot is never at or before a filled one, and a slot always at or before an empty one
-  later_filled : (h k : Option C) (v : ℕ) → holding_before before h k v ≡ false → is_some k ≡ true
-  later_filled h (Some d) v _ = refl
-  later_filled (Some c) None v e = absurd (true≢false e)
-  later_filled None None v e = absurd (true≢false e)
-
-  not_before_empty : (h k : Option C) (v : ℕ) → is_some h ≡ true → (is_some k ≡ true → holding_before before k h v ≡ false) → holding_before before k h v ≡ false
-  not_before_empty h (Some d) v _ f = f refl
-  not_before_empty (Some c) None v _ _ = refl
-  not_before_empty None None v e _ = absurd (false≢true e)
-
-  before_empty : (h k : Option C) (v : ℕ) → (is_some k ≡ true → holding_before before h k v ≡ true) → holding_before before h k v ≡ true
-  before_empty h (Some d) v f = f refl
-  before_empty (Some c) None v _ = refl
-  before_empty None None v _ = refl
-
   level_with_itself : (h : Option C) (v : ℕ) → holding_before before h h v ≡ true
-  level_with_itself (Some c) v = ⊎_elim (λ e. e) (λ e. either_way _ _ (ordered.total c c v) e) (cases_Bool (fact before c c v))
-  level_with_itself None v = refl
+  level_with_itself h v = ⊎_elim (λ e. e) (λ e. holdings_total before ordered h h v e) (cases_Bool (holding_before before h h v))
 
-  -- a lower slot is beaten until it is at or before the leader
-  pub lower_until : (cards : Cards C) (leader k t : ℕ) (r : Option ℕ) → k < leader → is_some (cards leader) ≡ true
-      → Ahead before cards t leader k
-      → FirstChange (slot_before before cards k leader) t 1000000 r
-      → HoldsUntil (λ v. Ahead before cards v leader k) t r
-  lower_until cards leader k t r below filled leads first =
-      until_change (slot_before before cards k leader) _ false t r
-      (not_before_empty (cards leader) (cards k) t filled (λ s. ⊎_elim (λ above. absurd (omega arith)) (λ e. e) (leads s (omega arith)).1))
-      (λ v e _ _. (not_after (cards leader) (cards k) v filled e, inr e))
-      (λ v e beats. ⊎_elim (λ above. omega arith) (λ f. both_ways _ f e) (beats (earlier_filled (cards leader) (cards k) v filled e) (omega arith)).1)
-      first
+  -- an empty slot is not before a filled one, and any slot is before an empty one
+  not_before : (h k : Option C) (v : ℕ) → is_some h ≡ true → (is_some k ≡ true → holding_before before k h v ≡ false) → holding_before before k h v ≡ false
+  not_before h (Some d) v _ f = f refl
+  not_before (Some c) None v _ _ = refl
+  not_before None None v e _ = absurd (false≢true e)
 
-  -- a higher slot is beaten until the leader is not at or before it
-  pub higher_until : (cards : Cards C) (leader k t : ℕ) (r : Option ℕ) → leader ≤ k
-      → Ahead before cards t leader k
-      → FirstChange (slot_before before cards leader k) t 1000000 r
-      → HoldsUntil (λ v. Ahead before cards v leader k) t r
-  higher_until cards leader k t r above leads first =
-      let itself : (v : ℕ) → k ≡ leader → slot_before before cards leader k v ≡ true =
-      λ v e. rw e (level_with_itself (cards leader) v) in
-      until_change (slot_before before cards leader k) _ true t r
-      (before_empty (cards leader) (cards k) t (λ s. ⊎_elim (itself t) (λ apart. (leads s apart).0) (cases_eq k leader)))
-      (λ v e _ apart. (e, inl (omega arith)))
-      (λ v e beats. ⊎_elim (λ is. both_ways _ e (itself v is)) (λ apart. both_ways _ e (beats (later_filled (cards leader) (cards k) v e) apart).0) (cases_eq k leader))
-      first
+  is_before : (h k : Option C) (v : ℕ) → (is_some k ≡ true → holding_before before h k v ≡ true) → holding_before before h k v ≡ true
+  is_before h (Some d) v f = f refl
+  is_before (Some c) None v _ = refl
+  is_before None None v _ = refl
 
--- until when a leader beats the slots below k, and then k too
-pub one_slot_more : {C : Type 0} (before : Order C) (cards : Cards C) (leader k t : ℕ) (a b : Option ℕ)
-    → HoldsUntil (λ v. (j : ℕ) → j < k → Ahead before cards v leader j) t a → HoldsUntil (λ v. Ahead before cards v leader k) t b
-    → HoldsUntil (λ v. (j : ℕ) → j < k + 1 → Ahead before cards v leader j) t (earlier_of a b)
-one_slot_more before cards leader k t a b =
-    until_both (λ v. (j : ℕ) → j < k → Ahead before cards v leader j) (λ v. Ahead before cards v leader k) (λ v. (j : ℕ) → j < k + 1 → Ahead before cards v leader j) t a b
-    (λ v below here. below_more (Ahead before cards v leader) k below here)
-    (λ v all. (λ j h. all j (omega arith), all k (omega arith)))
+  module _ (cards : Cards C) (i k : ℕ) (filled : is_some (cards i) ≡ true) (slot : k < 256) where
+    -- A slot is ahead of a lower one where that is not at or before it, and of a higher one where it is at or before that.
+    of_lower : k < i → (v : ℕ) → Ahead before cards every_slot v i k → slot_before before cards k i v ≡ false
+    of_lower below v ahead =
+        not_before (cards i) (cards k) v filled
+        (λ s. ⊎_elim (λ above. absurd (omega arith)) (λ e. e) (ahead (slot, refl, s) (omega arith)).1)
 
--- a filled slot that beats the others leads
-pub leads_until : {C : Type 0} (before : Order C) (cards : Cards C) (leader t : ℕ) (r : Option ℕ) → leader < 256 → is_some (cards leader) ≡ true
-    → HoldsUntil (λ v. (j : ℕ) → j < 256 → Ahead before cards v leader j) t r → HoldsUntil (λ v. Leader before cards v (Some leader)) t r
-leads_until before cards leader t r slot filled = until_alike _ _ t r (λ v ahead. (slot, filled, ahead)) (λ v leads. leads.2)
+    of_higher : i ≤ k → (v : ℕ) → Ahead before cards every_slot v i k → slot_before before cards i k v ≡ true
+    of_higher above v ahead =
+        is_before (cards i) (cards k) v
+        (λ s. ⊎_elim (λ is. rw is (level_with_itself (cards i) v)) (λ apart. (ahead (slot, refl, s) apart).0) (cases_eq k i))
+
+    pub ahead_lasts : (t : ℕ) (r : Option ℕ) → t ≤ 1000000 → Ahead before cards every_slot t i k
+        → FirstChange (slot_before before cards (min i k) (max i k)) t 1000000 r
+        → Lasting (λ v. Ahead before cards every_slot v i k) t (option_map_or (λ u. u - 1) r 1000000)
+    ahead_lasts t r upto ahead first =
+        ⊎_elim
+        (λ below. let e : min i k ≡ k = omega arith in let e' : max i k ≡ i = omega arith in
+        lasts (slot_before before cards k i) _ false t r upto ahead (of_lower below) (λ v e _ _. higher_wins before ordered cards v k i e) (rw (e, e') at first))
+        (λ above. let e : min i k ≡ i = omega arith in let e' : max i k ≡ k = omega arith in
+        lasts (slot_before before cards i k) _ true t r upto ahead (of_higher above) (λ v e _ apart. (e, inl (omega arith))) (rw (e, e') at first))
+        (cases_lt k i)
+
+  -- who leads, from the leader that is told
+  pub leads : (cards : Cards C) (t i : ℕ) → leader_of before cards every_slot t ≡ Some i → Leader before cards every_slot t (Some i)
+  leads cards t i e = subst (Leader before cards every_slot t) e (leader_exists before ordered cards t every_slot)
+
+  pub none_leads : (cards : Cards C) (t : ℕ) → leader_of before cards every_slot t ≡ None → NoneStands cards every_slot
+  none_leads cards t e = subst (Leader before cards every_slot t) e (leader_exists before ordered cards t every_slot)
+
+-- A slot leads on as long as it stays ahead of each other slot.
+pub leads_on : {C : Type 0} (before : Order C) (cards : Cards C) (i t m : ℕ) → Stands cards every_slot i
+    → ((k : ℕ) → k < 256 → (e : ℕ) × Lasting (λ v. Ahead before cards every_slot v i k) t e × (m ≤ e))
+    → (k : ℕ) × Lasting (λ v. Ahead before cards every_slot v i k) t m
+    → Lasting (λ v. Leader before cards every_slot v (Some i)) t m
+leads_on before cards i t m stands all (k, (from, upto, _, ends)) = (
+  from,
+  upto,
+  λ v after end. (stands, λ j s apart. let (e, lasting, later) = all j s.0 in lasting.2 v after (omega arith) s apart),
+  λ more leads. ends more (leads.1 k),
+)

@@ -1,4 +1,4 @@
-mod Until
-mod Beaten
-mod Told
+pub mod Beaten
+pub mod Runs
+pub mod Told
 mod Tried

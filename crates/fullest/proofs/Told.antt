@@ -1,29 +1,47 @@
--- Stretches that are told one after the other.
-use Rattle.std.proofs.Common.{◌≡◌, ℕ, ◌+◌, ◌-◌, ◌<◌, ◌≤◌, List, [], ◌∷◌, ◌++◌, is_some, Some, None, sym, refl, ap, ◌∙◌, subst, arith}
+-- Stretches that are told one after the other make a chart.
+use Rattle.std.proofs.Common.{◌≡◌, ℕ, ◌+◌, ◌≤◌, ◌⊎◌, List, [], ◌∷◌, ℤ, Some, None, Option, is_some, true, sym, refl, ap, ◌∙◌, subst, inl, inr, ⊎_elim, arith}
 use Rattle.std.proofs.lemmas.Bool.{false≢true}
 use Rattle.std.specs.List.{AllByRecursion}
-use Rattle.family.specs.Order.{Order}
+use Rattle.std.specs.Iterator.{Yields, DrainsIf}
+use Rattle.family.specs.Order.{last_time, Order}
 use Rattle.family.specs.Slots.{Cards}
-use Rattle.family.specs.Amounts.{Amount}
-use Rattle.fullest.specs.Stretches.{HoldsUntil, Lasting, Following, Leading}
-use Rattle.fullest.specs.declared.stretch.Stretch.{Stretch}
+use Rattle.family.specs.Amounts.{Amount, amount_of}
+use Rattle.envelope.specs.Lead.{every_slot, NoneStands}
+use Rattle.fullest.specs.Stretches.{Following, Leading, Chart, Told}
+use Rattle.fullest.specs.declared.stretch.PricedStretch.{PricedStretch}
 
-pub lasting_to_change : (P : ℕ → Type 0) (first end : ℕ) → HoldsUntil P first (Some end) → Lasting P first (end - 1)
-lasting_to_change P first end (later, upto, holds, ends) =
-    let back : (end - 1) + 1 ≡ end = omega arith in
-    (omega arith, omega arith, λ v after below. holds v after (omega arith), λ _ p. ends (subst P back p))
+-- a card that stands has an amount
+pub has_amount : {C X : Type 0} (amount : Amount C) (h : Option C) (t : ℕ) (r : Option ℤ) → is_some h ≡ true → r ≡ amount_of amount h t → r ≡ None → X
+has_amount amount (Some c) t r _ is none = absurd (false≢true (sym (ap is_some none) ∙ ap is_some is))
+has_amount amount None t r filled _ _ = absurd (false≢true filled)
 
-pub lasting_to_end : (P : ℕ → Type 0) (first : ℕ) → first ≤ 1000000 → HoldsUntil P first None → Lasting P first 1000000
-lasting_to_end P first upto holds = (upto, omega arith, holds, λ past _. omega arith)
+module _ {C F S : Type 0} (before : F → Order C) (cards : F → Cards C) (amount : F → Amount C) (family : S → F) (first : S → ℕ) where
+  -- a turn keeps the family and tells the next stretch
+  abbrev Turn : S → Option PricedStretch → S → Type 0
+  Turn s r t = (family t ≡ family s) × Told (before (family s)) (cards (family s)) (amount (family s)) (first s) r (first t)
 
-pub one_stretch_more : (lo hi : ℕ) (ss : List Stretch) (s : Stretch) → Following lo ss hi → s.first ≡ hi → Following lo (ss ++ s ∷ []) (s.last + 1)
-one_stretch_more lo hi [] s follows next = (next ∙ sym follows, refl)
-one_stretch_more lo hi (r ∷ rs) s (is, rest) next = (is, one_stretch_more (r.last + 1) hi rs s rest next)
+  module _ (f : F) where
+    abbrev LeadsIn : PricedStretch → Type 0
+    LeadsIn = Leading (before f) (cards f) (amount f)
 
--- where no card stands, nothing leads, and so nothing was told
-pub none_told : {C : Type 0} (before : Order C) (cards : Cards C) (amount : Amount C) (ss : List Stretch)
-    → ((k : ℕ) → k < 256 → cards k ≡ None) → AllByRecursion (Leading before cards amount) ss → ss ≡ []
-none_told before cards amount [] none _ = refl
-none_told before cards amount (s ∷ ss) none (((forward, _, leads, _), _), _) =
-    let lead = leads s.first (omega arith) forward in
-    absurd (false≢true (sym (ap is_some (none s.slot lead.0)) ∙ lead.1))
+    told : (s t u : S) (ss : List PricedStretch) → Yields Turn s ss t → Turn t None u → family s ≡ f → first s ≤ last_time + 1
+        → AllByRecursion LeadsIn ss × (Following (first s) ss (last_time + 1) ⊎ NoneStands (cards f) every_slot)
+    told s t u [] here (_, over) is upto = (
+      tt,
+      ⊎_elim (λ past. let at : first s ≡ first t = ap first here in inl (omega arith)) (λ none. inr (subst (λ h. NoneStands (cards h) every_slot) (ap family (sym here) ∙ is) none)) over,
+    )
+    told s t u (x ∷ xs) (j, (same, (from, leads, next)), later) over is upto =
+        let leads' : LeadsIn x = subst (λ h. Leading (before h) (cards h) (amount h) x) is leads in
+        let (all, end) = told j t u xs later over (same ∙ is) (omega (arith, next, leads.0.1)) in
+        ((leads', all), ⊎_elim (λ follows. inl (from, rw next at follows)) (λ none. inr none) end)
+
+    charted : (ss : List PricedStretch) → AllByRecursion LeadsIn ss → Following 0 ss (last_time + 1) ⊎ NoneStands (cards f) every_slot → Chart (before f) (cards f) (amount f) ss
+    charted [] all (inr none) = inl (refl, none)
+    charted (s ∷ ss) all (inr none) = let (on, _, leads, _) = all.0.0 in absurd (none s.stretch.slot (leads s.stretch.first (omega arith) on).0)
+    charted ss all (inl follows) = inr (follows, all)
+
+  pub chart_of : (s : S) (ss : List PricedStretch) → DrainsIf Turn (Unit {0}) s ss → first s ≡ 0 → Chart (before (family s)) (cards (family s)) (amount (family s)) ss
+  chart_of s ss (t, yields, last) start =
+      let (u, over) = last tt in
+      let (all, end) = told (family s) s t u ss yields over refl (omega arith) in
+      charted (family s) ss all (rw start at end)

@@ -1,3 +1,4 @@
-pub mod Lead
+pub mod Lasting
 pub mod Stretches
 pub mod Placing
+pub mod Printed

@@ -1,12 +1,12 @@
 // The account of a watch: which hoppers were set up, and which of them leads at each minute.
 ghost use Rattle.std.specs.Prelude.{◌≡◌, IfOk};
-ghost use Rattle.fullest.specs.Placing.{Placing, SetUp};
+ghost use Rattle.fullest.specs.Placing.{SetUp};
 ghost use Rattle.fullest.specs.Stretches.{Chart};
 
 use crate::chart::stretches;
 use crate::reading::{Attempt, Reading};
-use crate::stretch::Stretch;
-use family::{CardSlots, Family, PricedFamily, Refusal};
+use crate::stretch::PricedStretch;
+use family::{Family, PricedFamily};
 use hoppers::Hopper;
 use std::alloc::{AllocError, Global};
 
@@ -14,7 +14,7 @@ use std::alloc::{AllocError, Global};
 pub struct Account<F> {
     pub attempts: Vec<Attempt>,
     pub family: F,
-    pub stretches: Vec<Stretch>,
+    pub stretches: Vec<PricedStretch>,
 }
 
 impl<F: PricedFamily<Card = Hopper> + Drop> Account<F> {
@@ -45,21 +45,10 @@ fn set_up<F: Family<Card = Hopper>>(
 {
     let mut attempts = Vec::new(heap);
     for reading in readings {
-        let answer = place(family, *reading);
         attempts.push(Attempt {
             reading: *reading,
-            answer,
+            answer: reading.place(family),
         })?;
     }
     Ok(attempts)
-}
-
-// Makes the hopper and puts it into its slot. Refused outside the limits (3), and then where the slot is
-// filled (21); nothing changes then.
-fn place<F: Family<Card = Hopper>>(family: &mut F, reading: Reading) -> Result<(), Refusal>
-    ensures answer { Placing (F.slots family.old) reading result (F.slots family.new) }
-    ensures order { F.before family.new ≡ F.before family.old }
-{
-    let hopper = Hopper::new(reading.fill, reading.rate, reading.capacity)?;
-    family.put(reading.slot, hopper)
 }

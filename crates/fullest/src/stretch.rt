@@ -1,11 +1,9 @@
-// A stretch of the chart.
+// A stretch of the chart, with what its leader's card comes to.
+use envelope::Stretch;
+
 #[derive(Clone, Copy)]
-pub struct Stretch {
-    // The first time at which the slot leads.
-    pub first: u32,
-    // The last such time.
-    pub last: u32,
-    pub slot: u8,
-    // What the slot's card comes to at the first time.
+pub struct PricedStretch {
+    pub stretch: Stretch,
+    // What the slot's card comes to at the stretch's first time.
     pub amount: i64,
 }

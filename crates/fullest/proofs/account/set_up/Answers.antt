@@ -14,10 +14,10 @@ loop-reading-preserved g c =
     let reading = get_or c.args.readings.now c.loop-reading.reading-index none_read in
     let more = take_more c.args.readings.now c.loop-reading.reading-index none_read (omega arith) in (
       rw (more, c.in_ok-push.ensures.items)
-          (one_more_tried (slots c.args.family.now) (slots c.loop-reading.family) (slots c.place-answer.new.family)
+          (one_more_tried (slots c.args.family.now) (slots c.loop-reading.family) (slots c.place.new.family)
           (take c.loop-reading.reading-index c.args.readings.now) (vec_items c.loop-reading.attempts) reading
-          (record { reading = reading; answer = c.place-answer.result }) c.loop-reading.invariant.0 refl c.place-answer.ensures.answer),
-      c.place-answer.ensures.order ∙ c.loop-reading.invariant.1,
+          (record { reading = reading; answer = c.place.result }) c.loop-reading.invariant.0 refl c.place.ensures.answer),
+      c.place.ensures.order ∙ c.loop-reading.invariant.1,
     )
 
 pub returns : goal.returns
