@@ -1,6 +1,8 @@
 // When two fee cards trade places, by hand.
-use super::{ALL, C, D, Fee, pair};
-use family::Family;
+use super::{C, D};
+use crate::tests::made::{Fee, adapted};
+use crate::tests::tables::{Order, answered, both_told, empty_slots_last, ordered};
+use family::{Family, LAST_TIME};
 use std::process::Abort;
 use std::test::Fail;
 
@@ -16,34 +18,9 @@ const STEEP: Fee = Fee(0, 5, FAR);
 // is at or before slot 0" does.
 type Row<'a> = (Fee, Fee, &'a [u32], &'a [u32]);
 
-// Asked from 0 on, and then from each answer on, a family tells these times and no more.
-fn told<F: Family>(rt: &impl Abort, family: &F, i: u8, j: u8, times: &[u32]) -> Result<(), Fail> {
-    let mut t = 0;
-    for &u in times {
-        assert_eq!(rt; family.next_exchange(i, j, t, ALL), Some(u));
-        t = u;
-    }
-    assert_eq!(rt; family.next_exchange(i, j, t, ALL), None);
-    Ok(())
-}
-
-fn both_told<F: Family>(
-    rt: &impl Abort,
-    family: &F,
-    forth: &[u32],
-    back: &[u32],
-) -> Result<(), Fail> {
-    told(rt, family, 0, 1, forth)?;
-    told(rt, family, 1, 0, back)
-}
-
-fn traded(rt: &impl Abort, c: Fee, d: Fee, forth: &[u32], back: &[u32]) -> Result<(), Fail> {
-    both_told(rt, &pair(c, d)?, forth, back)
-}
-
 fn agree(rt: &impl Abort, rows: &[Row<'_>]) -> Result<(), Fail> {
     for &(c, d, forth, back) in rows {
-        traded(rt, c, d, forth, back)?;
+        both_told(rt, &adapted(c, d)?, forth, back);
     }
     Ok(())
 }
@@ -162,16 +139,21 @@ fn last_coins(rt: HostRuntime) -> Result<(), Fail> {
         &rt,
         &[
             // no cap is reached: level at the last time but one, at the last, and past it
-            (ONE, STILL, &[ALL], &[999_999]),
-            (ONE, Fee(1_000_000, 0, FAR), &[], &[ALL]),
+            (ONE, STILL, &[LAST_TIME], &[999_999]),
+            (ONE, Fee(1_000_000, 0, FAR), &[], &[LAST_TIME]),
             (ONE, Fee(1_000_001, 0, FAR), &[], &[]),
             // a cap is reached at the last time, and one before it
-            (Fee(0, 1, 1_000_000), STILL, &[ALL], &[999_999]),
+            (Fee(0, 1, 1_000_000), STILL, &[LAST_TIME], &[999_999]),
             (Fee(0, 1, 999_999), STILL, &[], &[999_999]),
             // dearer at the last time but one alone: the cap at the last time turns the difference back
-            (Fee(0, 5, 4_999_996), LATE, &[999_999, ALL], &[999_999]),
+            (
+                Fee(0, 5, 4_999_996),
+                LATE,
+                &[999_999, LAST_TIME],
+                &[999_999],
+            ),
             // level at the last time, where the second cap is reached too
-            (MOST, FASTEST, &[ALL], &[]),
+            (MOST, FASTEST, &[LAST_TIME], &[]),
             // the highest numbers, level early
             (FASTEST, DEAREST, &[1_001], &[1_000]),
             // the highest opening fee is passed at once
@@ -180,46 +162,35 @@ fn last_coins(rt: HostRuntime) -> Result<(), Fail> {
     )
 }
 
-// A start and an end; then when "slot 0 is at or before slot 1" changes, and when "slot 1 is at or before
-// slot 0" does.
-type Asked = (u32, u32, Option<u32>, Option<u32>);
-
-fn answered<F: Family>(rt: &impl Abort, family: &F, rows: &[Asked]) {
-    for &(t, end, forth, back) in rows {
-        assert_eq!(rt; family.next_exchange(0, 1, t, end), forth);
-        assert_eq!(rt; family.next_exchange(1, 0, t, end), back);
-    }
-}
-
 #[test]
 fn starts_and_ends(rt: HostRuntime) -> Result<(), Fail> {
     answered(
         &rt,
-        &pair(C, D)?,
+        &adapted(C, D)?,
         &[
             // an end before the first exchange, at it and after it
             (0, 33, None, None),
             (0, 34, Some(34), Some(34)),
             (0, 35, Some(34), Some(34)),
             // the whole range, at whose two ends neither fact differs
-            (0, ALL, Some(34), Some(34)),
+            (0, LAST_TIME, Some(34), Some(34)),
             (33, 251, Some(34), Some(34)),
             // an end before the second exchange of either order, at it and after it
             (34, 249, None, None),
             (34, 250, None, Some(250)),
             (34, 251, Some(251), Some(250)),
-            (34, ALL, Some(251), Some(250)),
+            (34, LAST_TIME, Some(251), Some(250)),
             // a start just before, at and just after the second exchange
-            (249, ALL, Some(251), Some(250)),
-            (250, ALL, Some(251), None),
-            (251, ALL, None, None),
+            (249, LAST_TIME, Some(251), Some(250)),
+            (250, LAST_TIME, Some(251), None),
+            (251, LAST_TIME, None, None),
             // the end is the start, and before it
             (33, 33, None, None),
             (300, 20, None, None),
             // an end past the last time is read as the last, and so is a start
             (34, u32::MAX, Some(251), Some(250)),
-            (ALL, u32::MAX, None, None),
-            (ALL + 1, u32::MAX, None, None),
+            (LAST_TIME, u32::MAX, None, None),
+            (LAST_TIME + 1, u32::MAX, None, None),
             (u32::MAX, 34, None, None),
         ],
     );
@@ -230,24 +201,23 @@ fn starts_and_ends(rt: HostRuntime) -> Result<(), Fail> {
 fn past_the_last_time(rt: HostRuntime) -> Result<(), Fail> {
     answered(
         &rt,
-        &pair(ONE, Fee(1_000_000, 0, FAR))?,
+        &adapted(ONE, Fee(1_000_000, 0, FAR))?,
         &[
             // an exchange at the last time: asked up to it, and up to one before it
-            (0, ALL, None, Some(ALL)),
-            (0, ALL - 1, None, None),
+            (0, LAST_TIME, None, Some(LAST_TIME)),
+            (0, LAST_TIME - 1, None, None),
             // an end past it
-            (0, ALL + 1, None, Some(ALL)),
-            (ALL - 1, u32::MAX, None, Some(ALL)),
+            (0, LAST_TIME + 1, None, Some(LAST_TIME)),
+            (LAST_TIME - 1, u32::MAX, None, Some(LAST_TIME)),
             // a start at it, and past it
-            (ALL, ALL + 1, None, None),
-            (ALL + 1, u32::MAX, None, None),
+            (LAST_TIME, LAST_TIME + 1, None, None),
+            (LAST_TIME + 1, u32::MAX, None, None),
         ],
     );
     Ok(())
 }
 
-// Two slots, a time, and whether the first is at or before the second then.
-const ORDERS: [(u8, u8, u32, bool); 11] = [
+const ORDERS: [Order; 11] = [
     // the sample at its exchanges, and past the last time
     (0, 1, 33, false),
     (1, 0, 33, true),
@@ -263,19 +233,11 @@ const ORDERS: [(u8, u8, u32, bool); 11] = [
     (8, 9, 0, true),
 ];
 
-fn ordered<F: Family>(rt: &impl Abort, family: &F) -> Result<(), Fail> {
-    for &(i, j, t, order) in &ORDERS {
-        assert_eq!(rt; family.compare(i, j, t), order);
-    }
-    for (i, j) in [(0, 9), (9, 0), (8, 9), (9, 9), (0, 0)] {
-        // neither changes
-        told(rt, family, i, j, &[])?;
-    }
-    assert_eq!(rt; family.bound(), 2);
-    Ok(())
-}
-
 #[test]
 fn orders(rt: HostRuntime) -> Result<(), Fail> {
-    ordered(&rt, &pair(C, D)?)
+    let family = adapted(C, D)?;
+    ordered(&rt, &family, &ORDERS);
+    empty_slots_last(&rt, &family);
+    assert_eq!(rt; family.bound(), 2);
+    Ok(())
 }

@@ -1,8 +1,7 @@
 // Which fee cards can be made, and what they charge.
-use super::{ALL, C, D, Fee, fee_card};
-use cards::PricedCard;
-use family::Refusal;
-use std::process::Abort;
+use super::{C, D};
+use crate::tests::made::{Fee, Made, comes_to};
+use family::{LAST_TIME, Refusal};
 use std::test::Fail;
 
 const HIGHEST: Fee = Fee(1_000_000_000, 1_000_000, 1_000_000_000_000);
@@ -32,36 +31,19 @@ const EDGES: [(Fee, bool); 15] = [
     (Fee(301, 7, 300), true),
 ];
 
-fn read_back(fee: Fee) -> Result<(u32, u32, u64), Refusal> {
-    let card = fee_card(fee)?;
-    Ok((card.opening(), card.rate(), card.cap()))
-}
-
 #[test]
 fn edges(rt: HostRuntime) {
-    for &(fee, made) in &EDGES {
-        let answer = if made {
-            Ok((fee.0, fee.1, fee.2))
-        } else {
-            Err(Refusal::OutsideLimits)
-        };
-        assert_eq!(rt; read_back(fee), answer);
+    for (fee, made) in EDGES {
+        let told = fee
+            .card()
+            .map(|card| Fee(card.opening(), card.rate(), card.cap()));
+        assert_eq!(rt; told, made.then_some(fee).ok_or(Refusal::OutsideLimits));
     }
-}
-
-// A fee card, some coins, and the charge for them.
-type Row = (Fee, u32, i64);
-
-fn charged(rt: &impl Abort, rows: &[Row]) -> Result<(), Fail> {
-    for &(fee, t, charge) in rows {
-        assert_eq!(rt; fee_card(fee)?.amount_at(t), charge);
-    }
-    Ok(())
 }
 
 #[test]
 fn charges(rt: HostRuntime) -> Result<(), Fail> {
-    charged(
+    comes_to(
         &rt,
         &[
             // no coin, one, the last below the cap, the first at it, and one more
@@ -74,9 +56,9 @@ fn charges(rt: HostRuntime) -> Result<(), Fail> {
             (Fee(100, 2, 999), 449, 998),
             (Fee(100, 2, 999), 450, 999),
             // the last time, and past it
-            (Fee(0, 1, 1_000_001), ALL - 1, 999_999),
-            (Fee(0, 1, 1_000_001), ALL, 1_000_000),
-            (Fee(0, 1, 1_000_001), ALL + 1, 1_000_000),
+            (Fee(0, 1, 1_000_001), LAST_TIME - 1, 999_999),
+            (Fee(0, 1, 1_000_001), LAST_TIME, 1_000_000),
+            (Fee(0, 1, 1_000_001), LAST_TIME + 1, 1_000_000),
             (Fee(0, 1, 1_000_001), u32::MAX, 1_000_000),
             (D, u32::MAX, 600),
         ],
@@ -85,23 +67,23 @@ fn charges(rt: HostRuntime) -> Result<(), Fail> {
 
 #[test]
 fn caps(rt: HostRuntime) -> Result<(), Fail> {
-    charged(
+    comes_to(
         &rt,
         &[
             // below the opening fee: the cap throughout
             (Fee(1_000, 7, 300), 0, 300),
             (Fee(1_000, 7, 300), 1, 300),
-            (Fee(1_000, 7, 300), ALL, 300),
+            (Fee(1_000, 7, 300), LAST_TIME, 300),
             (Fee(1_000, 7, 300), u32::MAX, 300),
             // none is charged
             (Fee(100, 2, 0), 0, 0),
             (Fee(100, 2, 0), 1, 0),
-            (Fee(100, 2, 0), ALL, 0),
+            (Fee(100, 2, 0), LAST_TIME, 0),
             // the highest card reaches the highest cap, and would pass it
             (HIGHEST, 0, 1_000_000_000),
             (HIGHEST, 998_999, 999_999_000_000),
             (HIGHEST, 999_000, 1_000_000_000_000),
-            (HIGHEST, ALL, 1_000_000_000_000),
+            (HIGHEST, LAST_TIME, 1_000_000_000_000),
             (HIGHEST, u32::MAX, 1_000_000_000_000),
         ],
     )

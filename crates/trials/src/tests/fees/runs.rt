@@ -1,16 +1,11 @@
-// Runs of amounts of fee cards, through the adapter.
-use super::{C, D, pair};
-use family::{PricedFamily, Refusal};
-use std::process::Abort;
+// Runs of amounts of fee cards, of their own and through the adapter.
+use super::{C, D};
+use crate::tests::made::{adapted, pair};
+use crate::tests::tables::{Run, UNTOUCHED, runs};
+use family::Refusal;
 use std::test::Fail;
 
-// What three cells hold before a run.
-const UNTOUCHED: [i64; 3] = [7, 7, 7];
-
-// A slot, a first time, how many of three cells the run is for, the answer, and what the three hold then.
-type Row = (u8, u32, usize, Result<(), Refusal>, [i64; 3]);
-
-const ROWS: [Row; 16] = [
+const ROWS: [Run; 16] = [
     // from no coin on
     (0, 0, 3, Ok(()), [100, 102, 104]),
     (0, 0, 1, Ok(()), [100, 7, 7]),
@@ -35,17 +30,9 @@ const ROWS: [Row; 16] = [
     (9, 1_000_001, 0, Err(Refusal::PastEnd), UNTOUCHED),
 ];
 
-fn agree<F: PricedFamily>(rt: &impl Abort, family: &F) {
-    for &(slot, first, count, answer, told) in &ROWS {
-        let mut cells = UNTOUCHED;
-        let found = family.amounts(slot, first, &mut cells[0..count.min(3)]);
-        assert_eq!(rt; found, answer);
-        assert_eq!(rt; cells, told);
-    }
-}
-
 #[test]
 fn up_to_three_cells(rt: HostRuntime) -> Result<(), Fail> {
-    agree(&rt, &pair(C, D)?);
+    runs(&rt, &pair(C, D)?, &ROWS);
+    runs(&rt, &adapted(C, D)?, &ROWS);
     Ok(())
 }

@@ -1,5 +1,5 @@
 // Which hoppers can be made, and what they come to.
-use cards::PricedCard;
+use crate::tests::made::{Line, comes_to};
 use family::Refusal;
 use hoppers::Hopper;
 use std::test::Fail;
@@ -28,18 +28,9 @@ fn edges(rt: HostRuntime) {
         (0, i32::MIN, 1, false),
     ];
     for (fill, rate, capacity, made) in rows {
-        match Hopper::new(fill, rate, capacity) {
-            Ok(hopper) => {
-                assert!(rt; made);
-                assert_eq!(rt; hopper.fill(), fill);
-                assert_eq!(rt; hopper.rate(), rate);
-                assert_eq!(rt; hopper.capacity(), capacity);
-            }
-            Err(refusal) => {
-                assert!(rt; !made);
-                assert_eq!(rt; refusal, Refusal::OutsideLimits);
-            }
-        }
+        let told = Hopper::new(fill, rate, capacity).map(|h| (h.fill(), h.rate(), h.capacity()));
+        let wanted = made.then_some((fill, rate, capacity));
+        assert_eq!(rt; told, wanted.ok_or(Refusal::OutsideLimits));
     }
 }
 
@@ -57,8 +48,7 @@ fn fills(rt: HostRuntime) -> Result<(), Fail> {
         (0, 1, u32::MAX, 1_000_000),
     ];
     for (fill, rate, t, amount) in rows {
-        let hopper = Hopper::new(fill, rate, 1_000_000_000)?;
-        assert_eq!(rt; hopper.amount_at(t), amount);
+        comes_to(&rt, &[(Line(fill, rate), t, amount)])?;
     }
     Ok(())
 }

@@ -1,6 +1,6 @@
 // Put, lift and card.
-use super::{Line, hopper, pair};
-use family::{Family, Refusal};
+use crate::tests::made::{Line, Made, pair};
+use family::{CardSlots, Refusal};
 use hoppers::Hopper;
 use std::test::Fail;
 
@@ -11,13 +11,13 @@ const D: Line = Line(800, 4);
 #[test]
 fn filled_twice(rt: HostRuntime) -> Result<(), Fail> {
     let mut family = pair(C, D)?;
-    assert_eq!(rt; family.put(0, hopper(D)?), Err(Refusal::SlotFilled));
+    assert_eq!(rt; family.put(0, D.card()?), Err(Refusal::SlotFilled));
     assert_eq!(rt;
         family.card(0),
-        Some(hopper(C)?),
+        Some(C.card()?),
         "the card that stood there stands"
     );
-    assert_eq!(rt; family.card(1), Some(hopper(D)?), "and so does the other");
+    assert_eq!(rt; family.card(1), Some(D.card()?), "and so does the other");
     Ok(())
 }
 
@@ -27,7 +27,7 @@ fn lifted_twice(rt: HostRuntime) -> Result<(), Fail> {
     assert_eq!(rt; family.lift(0), Ok(()));
     assert_eq!(rt; family.card(0), None);
     assert_eq!(rt; family.lift(0), Err(Refusal::SlotEmpty));
-    assert_eq!(rt; family.card(1), Some(hopper(D)?), "the other stands");
+    assert_eq!(rt; family.card(1), Some(D.card()?), "the other stands");
     Ok(())
 }
 
@@ -39,7 +39,7 @@ fn first_and_last_slot(rt: HostRuntime) -> Result<(), Fail> {
     assert_eq!(rt; family.put(255, last), Ok(()));
     assert_eq!(rt; family.card(255), Some(last));
     assert_eq!(rt; family.card(254), None);
-    assert_eq!(rt; family.card(0), Some(hopper(C)?));
+    assert_eq!(rt; family.card(0), Some(C.card()?));
     assert_eq!(rt; family.lift(255), Ok(()));
     assert_eq!(rt; family.lift(255), Err(Refusal::SlotEmpty));
     Ok(())

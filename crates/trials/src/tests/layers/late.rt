@@ -1,6 +1,8 @@
 // Late starts: what is told of a family is what is told below some time later.
-use super::{ALL, Line, Table, both_told, hoppers, sample, tells_late};
-use family::PricedFamily;
+use super::{sample, tells_late};
+use crate::tests::made::{Line, pair};
+use crate::tests::tables::{Table, both_told};
+use family::{LAST_TIME, PricedFamily};
 use layers::LateStart;
 use std::process::Abort;
 use std::test::Fail;
@@ -78,10 +80,10 @@ fn a_sample(rt: HostRuntime) -> Result<(), Fail> {
 fn up_to_the_last_time(rt: HostRuntime) -> Result<(), Fail> {
     agree_late(
         &rt,
-        hoppers(Line(0, 1), Line(999_999, 0))?,
+        pair(Line(0, 1), Line(999_999, 0))?,
         &[
             // as below, and one minute sooner
-            (0, &[ALL], &[999_999], true, 0),
+            (0, &[LAST_TIME], &[999_999], true, 0),
             (1, &[999_999], &[999_998], true, 1),
             // one minute off, level at the start, and past it
             (999_998, &[2], &[1], true, 999_998),
@@ -103,12 +105,12 @@ const LATE_BY_34: Table<'static> = Table {
         (0, 215, None, None),
         (0, 216, None, Some(216)),
         (0, 217, Some(217), Some(216)),
-        (0, ALL, Some(217), Some(216)),
+        (0, LAST_TIME, Some(217), Some(216)),
         (0, u32::MAX, Some(217), Some(216)),
         // a start just before it, at it and just after it
-        (215, ALL, Some(217), Some(216)),
-        (216, ALL, Some(217), None),
-        (217, ALL, None, None),
+        (215, LAST_TIME, Some(217), Some(216)),
+        (216, LAST_TIME, Some(217), None),
+        (217, LAST_TIME, None, None),
         // the end is the start, and before it
         (215, 215, None, None),
         (300, 20, None, None),
@@ -136,7 +138,7 @@ const LATE_BY_34: Table<'static> = Table {
         (1, 86, Some(600)),
         (0, 415, Some(998)),
         (0, 416, Some(1_000)),
-        (0, ALL, Some(1_000)),
+        (0, LAST_TIME, Some(1_000)),
         (0, u32::MAX, Some(1_000)),
         (9, 0, None),
     ],
@@ -164,10 +166,10 @@ const LEVEL_AT_LAST: Table<'static> = Table {
         (0, 999_991, None, Some(999_990)),
         (0, u32::MAX, None, Some(999_990)),
         // from one before where the time below is the last, from there, and from past it
-        (999_989, ALL, None, Some(999_990)),
-        (999_990, ALL, None, None),
-        (999_991, ALL, None, None),
-        (ALL, u32::MAX, None, None),
+        (999_989, LAST_TIME, None, Some(999_990)),
+        (999_990, LAST_TIME, None, None),
+        (999_991, LAST_TIME, None, None),
+        (LAST_TIME, u32::MAX, None, None),
         (u32::MAX, u32::MAX, None, None),
     ],
     orders: &[
@@ -191,7 +193,7 @@ const LEVEL_AT_LAST: Table<'static> = Table {
 fn past_the_end_below(rt: HostRuntime) -> Result<(), Fail> {
     tells_late(
         &rt,
-        hoppers(Line(0, 1), Line(1_000_000, 0))?,
+        pair(Line(0, 1), Line(1_000_000, 0))?,
         10,
         LEVEL_AT_LAST,
     );

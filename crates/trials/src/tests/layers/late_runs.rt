@@ -1,5 +1,7 @@
 // Runs of amounts of late starts.
-use super::{Line, Run, Table, UNTOUCHED, hoppers, tells_late};
+use super::tells_late;
+use crate::tests::made::{Line, pair};
+use crate::tests::tables::{Run, Table, UNTOUCHED};
 use family::Refusal;
 use std::process::Abort;
 use std::test::Fail;
@@ -49,7 +51,7 @@ const PAST_THE_END: [Run; 5] = [
 fn hoppers_late(rt: &impl Abort, d: Line, delay: u32, rows: &[Run]) -> Result<(), Fail> {
     tells_late(
         rt,
-        hoppers(Line(500, 10), d)?,
+        pair(Line(500, 10), d)?,
         delay,
         Table {
             bound: 1,

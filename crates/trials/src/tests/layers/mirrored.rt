@@ -1,6 +1,7 @@
 // The mirror of the sample, in which the dearer fee card comes first.
-use super::{ALL, Table, UNTOUCHED, sample, tells};
-use family::Refusal;
+use super::sample;
+use crate::tests::tables::{Table, UNTOUCHED, tells};
+use family::{LAST_TIME, Refusal};
 use layers::Mirror;
 use std::test::Fail;
 
@@ -9,10 +10,10 @@ const MIRRORED: Table<'static> = Table {
     bound: 2,
     exchanges: &[
         // below they are 34 both, then 251 and 250
-        (0, ALL, Some(34), Some(34)),
-        (34, ALL, Some(250), Some(251)),
+        (0, LAST_TIME, Some(34), Some(34)),
+        (34, LAST_TIME, Some(250), Some(251)),
         (34, 250, Some(250), None),
-        (250, ALL, None, Some(251)),
+        (250, LAST_TIME, None, Some(251)),
         (251, u32::MAX, None, None),
     ],
     orders: &[
@@ -33,7 +34,7 @@ const MIRRORED: Table<'static> = Table {
     amounts: &[
         (0, 34, Some(-168)),
         (1, 0, Some(0)),
-        (1, ALL, Some(-600)),
+        (1, LAST_TIME, Some(-600)),
         (9, 0, None),
     ],
     runs: &[

@@ -1,7 +1,8 @@
 // Piles of three layers over the sample and over hoppers.
-use super::{ALL, Line, UNTOUCHED, both_told, hopper, hoppers, kept, sample};
-use family::{Family, PricedFamily, Refusal};
-use fees::FeeCard;
+use super::sample;
+use crate::tests::made::{Fee, Line, Made, pair};
+use crate::tests::tables::{UNTOUCHED, both_told, kept};
+use family::{CardSlots, Family, LAST_TIME, PricedFamily, Refusal};
 use hoppers::Hoppers;
 use layers::{
     LateMirrorLate, LateStart, Mirror, amount_in_pile, compare_in_pile, exchange_in_pile,
@@ -11,7 +12,7 @@ use std::process::Abort;
 use std::test::Fail;
 
 // Times to ask at: about the exchanges of the families, and about the last time.
-const TIMES: [u32; 9] = [0, 1, 34, 216, 217, 999_965, 999_966, ALL, u32::MAX];
+const TIMES: [u32; 9] = [0, 1, 34, 216, 217, 999_965, 999_966, LAST_TIME, u32::MAX];
 
 // Two slots, of which 9 is empty.
 const SLOTS: [(u8, u8); 5] = [(0, 1), (1, 0), (0, 9), (9, 0), (9, 9)];
@@ -26,8 +27,8 @@ fn same_orders<A: Family, B: Family>(rt: &impl Abort, a: &A, b: &B, t: u32) {
     for &(i, j) in &SLOTS {
         assert_eq!(rt; a.compare(i, j, t), b.compare(i, j, t));
         assert_eq!(rt;
-            a.next_exchange(i, j, t, ALL),
-            b.next_exchange(i, j, t, ALL)
+            a.next_exchange(i, j, t, LAST_TIME),
+            b.next_exchange(i, j, t, LAST_TIME)
         );
     }
 }
@@ -57,8 +58,8 @@ fn in_pile<F: PricedFamily, B: PricedFamily>(
     for &(i, j) in &SLOTS {
         assert_eq!(rt; compare_in_pile(pile, i, j, t), b.compare(i, j, t));
         assert_eq!(rt;
-            exchange_in_pile(pile, i, j, t, ALL),
-            b.next_exchange(i, j, t, ALL)
+            exchange_in_pile(pile, i, j, t, LAST_TIME),
+            b.next_exchange(i, j, t, LAST_TIME)
         );
         assert_eq!(rt; amount_in_pile(pile, i, t), b.amount_at(i, t));
     }
@@ -117,11 +118,11 @@ fn over_a_sample(rt: HostRuntime) -> Result<(), Fail> {
 
 // Two hoppers, level at the last time but one.
 fn level_late() -> Result<Hoppers, Refusal> {
-    hoppers(Line(0, 1), Line(999_999, 0))
+    pair(Line(0, 1), Line(999_999, 0))
 }
 
 const LEVEL_LATE: [Row<'static>; 6] = [
-    (0, 0, &[999_999], &[ALL]),
+    (0, 0, &[999_999], &[LAST_TIME]),
     (10, 24, &[999_965], &[999_966]),
     (400_000, 599_998, &[1], &[2]),
     (1, 999_998, &[], &[1]),
@@ -138,25 +139,29 @@ fn over_hoppers(rt: HostRuntime) -> Result<(), Fail> {
 }
 
 // Put, lift and card in a late start, and in a pile over it.
-fn kept_in_layers<C: Copy + Debug + PartialEq, F: Family<Card = C> + Drop>(
+fn kept_in_layers<C: Copy + Debug + PartialEq, F: CardSlots<Card = C> + Drop>(
     rt: &impl Abort,
     below: F,
-    card: C,
+    c: C,
+    d: C,
+    third: C,
 ) {
     let mut late = LateStart::new(below, 10);
-    kept(rt, &mut late, card);
-    kept(rt, &mut LateStart::new(Mirror(late), 24), card);
+    kept(rt, &mut late, c, d, third);
+    kept(rt, &mut LateStart::new(Mirror(late), 24), c, d, third);
 }
 
 #[test]
 fn a_sample_kept(rt: HostRuntime) -> Result<(), Fail> {
-    kept_in_layers(&rt, sample()?, FeeCard::new(100, 2, 1_000)?);
+    let (c, d) = (Fee(100, 2, 1_000).card()?, Fee(0, 5, 600).card()?);
+    kept_in_layers(&rt, sample()?, c, d, c);
     Ok(())
 }
 
 #[test]
 fn hoppers_kept(rt: HostRuntime) -> Result<(), Fail> {
-    kept_in_layers(&rt, level_late()?, hopper(Line(500, 10))?);
+    let (c, d) = (Line(0, 1).card()?, Line(999_999, 0).card()?);
+    kept_in_layers(&rt, level_late()?, c, d, Line(500, 10).card()?);
     Ok(())
 }
 

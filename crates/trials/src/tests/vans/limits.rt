@@ -1,7 +1,7 @@
 // Which vans can be made, and how far they are.
-use super::{Path, pair, van};
-use cards::PricedCard;
-use family::{PricedFamily, Refusal};
+use crate::tests::made::{Made, Path, comes_to, pair};
+use crate::tests::tables::{full_runs, priced};
+use family::Refusal;
 use layers::{LateStart, Mirror};
 use std::test::Fail;
 
@@ -23,17 +23,10 @@ fn edges(rt: HostRuntime) {
         (Path(0, 0, 0, i16::MAX), false),
     ];
     for (path, made) in rows {
-        match van(path) {
-            Ok(van) => {
-                assert!(rt; made);
-                assert_eq!(rt; (van.px(), van.py()), (path.0, path.1));
-                assert_eq!(rt; (van.vx(), van.vy()), (path.2, path.3));
-            }
-            Err(refusal) => {
-                assert!(rt; !made);
-                assert_eq!(rt; refusal, Refusal::OutsideLimits);
-            }
-        }
+        let told = path
+            .card()
+            .map(|van| Path(van.px(), van.py(), van.vx(), van.vy()));
+        assert_eq!(rt; told, made.then_some(path).ok_or(Refusal::OutsideLimits));
     }
 }
 
@@ -59,10 +52,7 @@ fn distances(rt: HostRuntime) -> Result<(), Fail> {
         (Path(0, 0, 1, 0), 1_000_001, 1_000_000_000_000),
         (Path(0, 0, 1, 0), u32::MAX, 1_000_000_000_000),
     ];
-    for (path, t, distance) in rows {
-        assert_eq!(rt; van(path)?.amount_at(t), distance);
-    }
-    Ok(())
+    comes_to(&rt, &rows)
 }
 
 // The largest amount in a mirror of a late start, where the time below soon passes the end.
@@ -70,11 +60,12 @@ fn distances(rt: HostRuntime) -> Result<(), Fail> {
 fn farthest_in_layers(rt: HostRuntime) -> Result<(), Fail> {
     let far = Path(100_000, 100_000, 1_000, 1_000);
     let layers = Mirror(LateStart::new(pair(far, far)?, 999_999));
-    assert_eq!(rt; layers.amount_at(1, 1), Some(-2_000_400_020_000_000_000));
-    let mut cells = [7i64; 3];
-    assert_eq!(rt; layers.amounts(0, 0, &mut cells), Ok(()));
-    assert_eq!(rt; cells[0], -2_000_396_019_602_000_000);
-    assert_eq!(rt; cells[1], -2_000_400_020_000_000_000);
-    assert_eq!(rt; cells[2], -2_000_400_020_000_000_000);
+    priced(&rt, &layers, &[(1, 1, Some(-2_000_400_020_000_000_000))]);
+    let cells = [
+        -2_000_396_019_602_000_000,
+        -2_000_400_020_000_000_000,
+        -2_000_400_020_000_000_000,
+    ];
+    full_runs(&rt, &layers, &[(0, 0, Ok(()), cells)]);
     Ok(())
 }

@@ -1,0 +1,54 @@
+// When two cards trade places, by formula and by bisection.
+use crate::tests::made::{Made, adapted, pair};
+use crate::tests::tables::{Asked, looked_up};
+use agreement::exchange_both_ways;
+use cards::{ExchangingCard, TurningCard};
+use std::fmt::Debug;
+use std::process::Abort;
+use std::test::Fail;
+
+// Two cards, a start and an end; then when "slot 0 is at or before slot 1" changes, and when "slot 1 is at or
+// before slot 0" does.
+pub type Row<M> = (M, M, u32, u32, Option<u32>, Option<u32>);
+
+// Both ways tell both exchanges, and those of the pair the other way round.
+pub fn both_ways<C: ExchangingCard + TurningCard + Debug + PartialEq, M: Made<Card = C>>(
+    rt: &impl Abort,
+    rows: &[Row<M>],
+) -> Result<(), Fail> {
+    for &(c, d, t, end, forth, back) in rows {
+        asked_both_ways(rt, c, d, (t, end, forth, back))?;
+        asked_both_ways(rt, d, c, (t, end, back, forth))?;
+    }
+    Ok(())
+}
+
+fn asked_both_ways<C: ExchangingCard + TurningCard + Debug + PartialEq, M: Made<Card = C>>(
+    rt: &impl Abort,
+    c: M,
+    d: M,
+    asked: Asked,
+) -> Result<(), Fail> {
+    let (formula, bisection) = (pair(c, d)?, adapted(c, d)?);
+    let (t, end, forth, back) = asked;
+    assert_eq!(rt;
+        exchange_both_ways(&formula, &bisection, 0, 1, t, end),
+        (forth, forth)
+    );
+    assert_eq!(rt;
+        exchange_both_ways(&formula, &bisection, 1, 0, t, end),
+        (back, back)
+    );
+    Ok(())
+}
+
+// Both ways tell what is seen by looking at every minute up to 300.
+pub fn every_minute_both_ways<
+    C: ExchangingCard + TurningCard + Debug + PartialEq,
+    M: Made<Card = C>,
+>(rt: &impl Abort, c: M, d: M, t: u32) -> Result<(), Fail> {
+    let family = pair(c, d)?;
+    let forth = looked_up(&family, 0, 1, t, 300);
+    let back = looked_up(&family, 1, 0, t, 300);
+    both_ways(rt, &[(c, d, t, 300, forth, back)])
+}
