@@ -1,18 +1,35 @@
 // What cards are made of, written short, and families with two cards to try things on.
 use adapter::Adapter;
-use cards::{ByAmount, PricedCard};
+use cards::ByAmount;
 use family::{CardSlots, Refusal};
-use fees::FeeCard;
-use hoppers::Hopper;
+use fees::{FeeCard, FeeCards};
+use hoppers::{Hopper, Hoppers};
 use slots::Slots;
 use std::fmt::Debug;
-use std::process::Abort;
-use std::test::Fail;
-use vans::Van;
+use vans::{Van, Vans};
 
-// The numbers that a card is made of.
+// A family that can be begun with every slot empty.
+pub trait Empty: CardSlots {
+    fn empty() -> Self;
+}
+
+impl<C: Copy> Empty for ByAmount<Slots<C>> {
+    fn empty() -> Self {
+        ByAmount(Slots::new())
+    }
+}
+
+impl<F: Empty> Empty for Adapter<F> {
+    fn empty() -> Self {
+        Adapter(F::empty())
+    }
+}
+
+// The numbers that a card is made of, and the family of such cards.
 pub trait Made: Copy {
     type Card: Copy + Debug + PartialEq;
+
+    type Family: Empty<Card = Self::Card> + Drop;
 
     fn card(self) -> Result<Self::Card, Refusal>;
 }
@@ -23,6 +40,8 @@ pub struct Line(pub u32, pub i32);
 
 impl Made for Line {
     type Card = Hopper;
+
+    type Family = Hoppers;
 
     fn card(self) -> Result<Hopper, Refusal> {
         Hopper::new(self.0, self.1, 1_000_000_000)
@@ -36,6 +55,8 @@ pub struct Path(pub i32, pub i32, pub i16, pub i16);
 impl Made for Path {
     type Card = Van;
 
+    type Family = Vans;
+
     fn card(self) -> Result<Van, Refusal> {
         Van::new(self.0, self.1, self.2, self.3)
     }
@@ -48,40 +69,27 @@ pub struct Fee(pub u32, pub u32, pub u64);
 impl Made for Fee {
     type Card = FeeCard;
 
+    type Family = FeeCards;
+
     fn card(self) -> Result<FeeCard, Refusal> {
         FeeCard::new(self.0, self.1, self.2)
     }
 }
 
-// The family with the first card in slot 0 and the second in slot 1.
-fn filled<F: CardSlots + Drop, M: Made<Card = F::Card>>(
-    empty: F,
-    c: M,
-    d: M,
-) -> Result<F, Refusal> {
-    let mut family = empty;
+// The family with the first card in slot 0, the second in slot 1, and nothing else.
+fn filled<F: Empty + Drop, M: Made<Card = F::Card>>(c: M, d: M) -> Result<F, Refusal> {
+    let mut family = F::empty();
     family.put(0, c.card()?)?;
     family.put(1, d.card()?)?;
     Ok(family)
 }
 
-// The two cards and nothing else, as a family.
-pub fn pair<M: Made>(c: M, d: M) -> Result<ByAmount<Slots<M::Card>>, Refusal> {
-    filled(ByAmount(Slots::new()), c, d)
+// Two cards in the family of their sort.
+pub fn pair<M: Made>(c: M, d: M) -> Result<M::Family, Refusal> {
+    filled(c, d)
 }
 
 // The same two as they come through the adapter.
-pub fn adapted<M: Made>(c: M, d: M) -> Result<Adapter<ByAmount<Slots<M::Card>>>, Refusal> {
-    filled(Adapter(ByAmount(Slots::new())), c, d)
-}
-
-// Each card comes to an amount at a time.
-pub fn comes_to<C: PricedCard + Debug + PartialEq, M: Made<Card = C>>(
-    rt: &impl Abort,
-    rows: &[(M, u32, i64)],
-) -> Result<(), Fail> {
-    for &(made, t, amount) in rows {
-        assert_eq!(rt; made.card()?.amount_at(t), amount);
-    }
-    Ok(())
+pub fn adapted<M: Made>(c: M, d: M) -> Result<Adapter<M::Family>, Refusal> {
+    filled(c, d)
 }

@@ -1,7 +1,10 @@
-// Tables to hold any family to that has a card in slot 0, one in slot 1, and nothing else.
+// Tables to hold any family to that has a card in slot 0, one in slot 1, and nothing else; and one for cards.
+use crate::tests::made::Made;
+use cards::PricedCard;
 use family::{CardSlots, Family, LAST_TIME, Priced, PricedFamily, Refusal};
 use std::fmt::Debug;
 use std::process::Abort;
+use std::test::Fail;
 
 // A start and an end; then the next exchange of slots 0 and 1, and of 1 and 0: when "slot 0 is at or before
 // slot 1" changes, and when "slot 1 is at or before slot 0" does.
@@ -9,8 +12,16 @@ pub type Asked = (u32, u32, Option<u32>, Option<u32>);
 
 pub fn answered<F: Family>(rt: &impl Abort, family: &F, rows: &[Asked]) {
     for &(t, end, forth, back) in rows {
-        assert_eq!(rt; family.next_exchange(0, 1, t, end), forth);
-        assert_eq!(rt; family.next_exchange(1, 0, t, end), back);
+        assert_eq!(rt;
+            family.next_exchange(0, 1, t, end),
+            forth,
+            "from {t} to {end}"
+        );
+        assert_eq!(rt;
+            family.next_exchange(1, 0, t, end),
+            back,
+            "back from {t} to {end}"
+        );
     }
 }
 
@@ -24,10 +35,18 @@ pub fn looked_up<F: Family>(family: &F, i: u8, j: u8, t: u32, end: u32) -> Optio
 pub fn told<F: Family>(rt: &impl Abort, family: &F, i: u8, j: u8, times: &[u32]) {
     let mut t = 0;
     for &u in times {
-        assert_eq!(rt; family.next_exchange(i, j, t, LAST_TIME), Some(u));
+        assert_eq!(rt;
+            family.next_exchange(i, j, t, LAST_TIME),
+            Some(u),
+            "slots {i} and {j} from {t}"
+        );
         t = u;
     }
-    assert_eq!(rt; family.next_exchange(i, j, t, LAST_TIME), None);
+    assert_eq!(rt;
+        family.next_exchange(i, j, t, LAST_TIME),
+        None,
+        "slots {i} and {j} from {t}"
+    );
 }
 
 // All times at which "slot 0 is at or before slot 1" changes, and all at which "slot 1 is at or before slot
@@ -42,7 +61,7 @@ pub type Order = (u8, u8, u32, bool);
 
 pub fn ordered<F: Family>(rt: &impl Abort, family: &F, rows: &[Order]) {
     for &(i, j, t, order) in rows {
-        assert_eq!(rt; family.compare(i, j, t), order);
+        assert_eq!(rt; family.compare(i, j, t), order, "slots {i} and {j} at {t}");
     }
 }
 
@@ -73,8 +92,21 @@ pub type Amount = (u8, u32, Option<i64>);
 
 pub fn priced<P: Priced>(rt: &impl Abort, family: &P, rows: &[Amount]) {
     for &(slot, t, amount) in rows {
-        assert_eq!(rt; family.amount_at(slot, t), amount);
+        assert_eq!(rt; family.amount_at(slot, t), amount, "slot {slot} at {t}");
     }
+}
+
+// What a card is made of, a time, and the card's amount then.
+pub type CardAmount<M> = (M, u32, i64);
+
+pub fn comes_to<C: PricedCard, M: Made<Card = C>>(
+    rt: &impl Abort,
+    rows: &[CardAmount<M>],
+) -> Result<(), Fail> {
+    for &(made, t, amount) in rows {
+        assert_eq!(rt; made.card()?.amount_at(t), amount, "at {t}");
+    }
+    Ok(())
 }
 
 // What three cells hold before a run.
@@ -87,8 +119,7 @@ pub fn runs<P: Priced>(rt: &impl Abort, family: &P, rows: &[Run]) {
     for &(slot, first, count, answer, told) in rows {
         let mut cells = UNTOUCHED;
         let found = family.amounts(slot, first, &mut cells[..count.min(3)]);
-        assert_eq!(rt; found, answer);
-        assert_eq!(rt; cells, told);
+        assert_eq!(rt; (found, cells), (answer, told), "slot {slot} from {first}");
     }
 }
 

@@ -2,7 +2,6 @@
 use crate::tests::made::{Made, pair};
 use cards::TurningCard;
 use family::{LAST_TIME, Priced};
-use std::fmt::Debug;
 use std::process::Abort;
 use std::test::Fail;
 
@@ -36,11 +35,10 @@ pub fn turned<P: Priced>(rt: &impl Abort, family: &P, turn: u32) {
 }
 
 // The time told for two cards, which turns them.
-pub fn turning<C: TurningCard + Debug + PartialEq, M: Made<Card = C>>(
-    rt: &impl Abort,
-    c: M,
-    d: M,
-) -> Result<u32, Fail> {
+pub fn turning<C: TurningCard, M: Made<Card = C>>(rt: &impl Abort, c: M, d: M) -> Result<u32, Fail>
+where
+    M::Family: Priced,
+{
     let told = c.card()?.turning(&d.card()?);
     turned(rt, &pair(c, d)?, told);
     Ok(told)

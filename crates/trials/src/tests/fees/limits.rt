@@ -1,6 +1,7 @@
 // Which fee cards can be made, and what they charge.
 use super::{C, D};
-use crate::tests::made::{Fee, Made, comes_to};
+use crate::tests::made::{Fee, Made};
+use crate::tests::tables::comes_to;
 use family::{LAST_TIME, Refusal};
 use std::test::Fail;
 

@@ -1,5 +1,6 @@
 // Which hoppers can be made, and what they come to.
-use crate::tests::made::{Line, comes_to};
+use crate::tests::made::Line;
+use crate::tests::tables::comes_to;
 use family::Refusal;
 use hoppers::Hopper;
 use std::test::Fail;

@@ -1,7 +1,7 @@
 // Late starts: what is told of a family is what is told below some time later.
 use super::{sample, tells_late};
 use crate::tests::made::{Line, pair};
-use crate::tests::tables::{Table, both_told};
+use crate::tests::tables::{Table, both_told, ordered, priced};
 use family::{LAST_TIME, PricedFamily};
 use layers::LateStart;
 use std::process::Abort;
@@ -27,24 +27,15 @@ fn delays(rt: HostRuntime) {
 // before slot 0" does; then whether the first holds at 0, and the amount of slot 0 there.
 type Row<'a> = (u32, &'a [u32], &'a [u32], bool, i64);
 
-fn told_late<F: PricedFamily>(rt: &impl Abort, late: &F, row: Row<'_>) {
-    let (_, forth, back, order, amount) = row;
-    both_told(rt, late, forth, back);
-    assert_eq!(rt; late.compare(0, 1, 0), order);
-    assert_eq!(rt; late.amount_at(0, 0), Some(amount));
-}
-
-// The family below, after it has been asked late.
-fn asked_late<F: PricedFamily + Drop>(rt: &impl Abort, below: F, row: Row<'_>) -> F {
-    let late = LateStart::new(below, row.0);
-    told_late(rt, &late, row);
-    late.below
-}
-
+// A family that is asked late again and again.
 fn agree_late<F: PricedFamily + Drop>(rt: &impl Abort, family: F, rows: &[Row<'_>]) {
     let mut below = family;
-    for &row in rows {
-        below = asked_late(rt, below, row);
+    for &(delay, forth, back, order, amount) in rows {
+        let late = LateStart::new(below, delay);
+        both_told(rt, &late, forth, back);
+        ordered(rt, &late, &[(0, 1, 0, order)]);
+        priced(rt, &late, &[(0, 0, Some(amount))]);
+        below = late.below;
     }
 }
 

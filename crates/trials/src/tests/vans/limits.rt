@@ -1,6 +1,6 @@
 // Which vans can be made, and how far they are.
-use crate::tests::made::{Made, Path, comes_to, pair};
-use crate::tests::tables::{full_runs, priced};
+use crate::tests::made::{Made, Path, pair};
+use crate::tests::tables::{comes_to, full_runs, priced};
 use family::Refusal;
 use layers::{LateStart, Mirror};
 use std::test::Fail;
