@@ -1,0 +1,5 @@
+// Trials of vans.
+mod exchanges;
+mod limits;
+mod runs;
+mod turnings;
