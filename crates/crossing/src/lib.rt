@@ -10,8 +10,7 @@
 // answer. From −300 by 6 it is 0 at w = 50, and that is the answer.
 #![tactic(auto)]
 
-ghost use Rattle.std.specs.Prelude.{◌≡◌, ◌-◌, FitsSigned};
-ghost use Rattle.std.specs.Int.{w32};
+ghost use Rattle.std.specs.Prelude.{◌≡◌, ◌-◌};
 ghost use Rattle.family.specs.Order.{FirstChange};
 ghost use Rattle.crossing.specs.Line.{line, not_negative, FirstEver};
 

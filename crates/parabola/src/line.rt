@@ -17,6 +17,7 @@ pub(crate) struct Line {
     // The number at time 0.
     pub start: i64,
     pub step: i64,
+    // So small that the number fits 64 bits at each time.
     ghost near: { unsigned_abs start ≤ 100000000000 },
     ghost slow: { unsigned_abs step ≤ 2000000000 },
 }

@@ -1,5 +1,5 @@
 // Roots of whole numbers.
-ghost use Rattle.std.specs.Prelude.{◌+◌, ◌*◌, ◌<◌, ◌≤◌, IsTrue};
+ghost use Rattle.std.specs.Prelude.{◌+◌, ◌*◌, ◌<◌, ◌≤◌, ◌↔◌, IsTrue};
 ghost use Rattle.parabola.specs.Reach.{RootOf};
 
 use std::num::{nearest_u64_to_f64, saturating_f64_to_u32};
@@ -30,7 +30,7 @@ fn whole_root(n: u64) -> u32
 
 // Whether r is the root of n, rounded down.
 fn is_root(r: u32, n: u64) -> bool
-    ensures { IsTrue result → (r * r ≤ n) × (n < (r + 1) * (r + 1)) }
+    ensures { IsTrue result ↔ ((r * r ≤ n) × (n < (r + 1) * (r + 1))) }
 {
     let (r, square) = (u64::from(r), u64::from(r) * u64::from(r));
     square <= n && n - square <= 2 * r
