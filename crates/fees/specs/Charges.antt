@@ -67,8 +67,14 @@ capped_somewhere c =
 
 -- the turning time of two cards: at the first cap, or one before it
 module _ (c d : FeeCard) (i j : ℕ) (ci : CappedFrom c i) (dj : CappedFrom d j) where
+  cx : Course (charge c) c.rate i
+  cx = charge_course c i ci
+
+  dy : Course (charge d) d.rate j
+  dy = charge_course d j dj
+
   pub turns_at_start : 0 ≡ min i j → TurnsAt charge_at c d 0
-  turns_at_start is = (omega arith, steady_point _ 0, from_first_cap (charge c) (charge d) c.rate d.rate i j (charge_course c i ci) (charge_course d j dj) 0 is)
+  turns_at_start is = (omega arith, steady_point _ 0, from_first_cap cx dy 0 is)
 
   -- n is the time of the first cap and m the one before it
   module _ (m n : ℕ) (next : n ≡ suc m) (is : n ≡ min i j) where
@@ -82,24 +88,24 @@ module _ (c d : FeeCard) (i j : ℕ) (ci : CappedFrom c i) (dj : CappedFrom d j)
         → (d.rate < c.rate → charge c m + charge d n ≤ charge c n + charge d m) → TurnsAt charge_at c d n
     turns_at_cap slow fast = rw next (
       omega (arith, ci.0),
-      to_first_cap (charge c) (charge d) c.rate d.rate i j (charge_course c i ci) (charge_course d j dj) m (sym next ∙ is)
+      to_first_cap cx dy m (sym next ∙ is)
           (λ slower. omega (arith, slow slower, c_next, d_next)) (λ faster. omega (arith, fast faster, c_next, d_next)),
-      from_first_cap (charge c) (charge d) c.rate d.rate i j (charge_course c i ci) (charge_course d j dj) (suc m) (sym next ∙ is),
+      from_first_cap cx dy (suc m) (sym next ∙ is),
     )
 
     pub turns_down_before_cap : d.rate < c.rate → charge c n + charge d m ≤ charge c m + charge d n → TurnsAt charge_at c d m
     turns_down_before_cap faster down = (
       omega (arith, ci.0),
-      until_before_cap (charge c) (charge d) c.rate d.rate i j (charge_course c i ci) (charge_course d j dj) m (sym next ∙ is),
-      down_from_before_cap (charge c) (charge d) c.rate d.rate i j (charge_course c i ci) (charge_course d j dj) m (sym next ∙ is)
+      until_before_cap cx dy m (sym next ∙ is),
+      down_from_before_cap cx dy m (sym next ∙ is)
           faster (omega (arith, c_next, d_next)),
     )
 
     pub turns_up_before_cap : c.rate < d.rate → charge c m + charge d n ≤ charge c n + charge d m → TurnsAt charge_at c d m
     turns_up_before_cap slower up = (
       omega (arith, ci.0),
-      until_before_cap (charge c) (charge d) c.rate d.rate i j (charge_course c i ci) (charge_course d j dj) m (sym next ∙ is),
-      up_from_before_cap (charge c) (charge d) c.rate d.rate i j (charge_course c i ci) (charge_course d j dj) m (sym next ∙ is)
+      until_before_cap cx dy m (sym next ∙ is),
+      up_from_before_cap cx dy m (sym next ∙ is)
           slower (omega (arith, c_next, d_next)),
     )
 

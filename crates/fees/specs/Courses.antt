@@ -14,7 +14,7 @@ pub record Course (x : ℕ → ℕ) (rate cap : ℕ) : Type 0 where
   pub up : (t : ℕ) → x t ≤ x (suc t)
   pub most : (t : ℕ) → x (suc t) ≤ x t + rate
 
-module _ (x y : ℕ → ℕ) (b e i j : ℕ) (cx : Course x b i) (cy : Course y e j) where
+module _ {x y : ℕ → ℕ} {b e i j : ℕ} (cx : Course x b i) (cy : Course y e j) where
   abbrev gap : ℕ → ℤ
   gap t = pos (x t) -ℤ pos (y t)
 

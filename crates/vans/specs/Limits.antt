@@ -1,4 +1,4 @@
--- Which vans there are.
+-- Which vans there are, and how far they may come.
 use Rattle.std.specs.Prelude.{◌≤◌, ℤ, unsigned_abs}
 
 -- positions from −100,000 to 100,000 metres, and velocities from −1,000 to 1,000 metres a minute
