@@ -4,7 +4,7 @@ use Rattle.std.specs.Option.{option_map_or}
 use Rattle.std.proofs.lemmas.Bool.{false≢true, true≢false, cases_Bool, cases_eq, cases_lt}
 use Rattle.family.specs.Order.{Order, TotalPreorder, FirstChange}
 use Rattle.family.specs.Slots.{Cards, slot_before, holding_before}
-use Rattle.envelope.specs.Lead.{every_slot, Stands, NoneStands, Ahead, Leader, leader_of}
+use Rattle.envelope.specs.Lead.{every_slot, Stands, Ahead, Leader, leader_of}
 use Rattle.envelope.proofs.Lead.{holdings_total, higher_wins, leader_exists}
 use Rattle.fullest.specs.Lasting.{Lasting}
 
@@ -68,11 +68,8 @@ module _ {C : Type 0} (before : Order C) (ordered : TotalPreorder before) where
         (cases_lt k i)
 
   -- who leads, from the leader that is told
-  pub leads : (cards : Cards C) (t i : ℕ) → leader_of before cards every_slot t ≡ Some i → Leader before cards every_slot t (Some i)
-  leads cards t i e = subst (Leader before cards every_slot t) e (leader_exists before ordered cards t every_slot)
-
-  pub none_leads : (cards : Cards C) (t : ℕ) → leader_of before cards every_slot t ≡ None → NoneStands cards every_slot
-  none_leads cards t e = subst (Leader before cards every_slot t) e (leader_exists before ordered cards t every_slot)
+  pub leads : (cards : Cards C) (t : ℕ) (r : Option ℕ) → leader_of before cards every_slot t ≡ r → Leader before cards every_slot t r
+  leads cards t r e = subst (Leader before cards every_slot t) e (leader_exists before ordered cards t every_slot)
 
 -- A slot leads on as long as it stays ahead of each other slot.
 pub leads_on : {C : Type 0} (before : Order C) (cards : Cards C) (i t m : ℕ) → Stands cards every_slot i

@@ -1,5 +1,5 @@
 -- What chains over all slots give.
-use Rattle.std.proofs.Common.{◌≡◌, ℕ, zero, suc, ◌+◌, ◌<◌, ◌≤◌, Bool, true, false, cond, is_some, List, [], ◌∷◌, length, Some, None, Option, MatchOption, IsSomeAnd, IfSome, unwrap_or, sym, refl, ap, ◌∙◌, subst, add-zero, rules, tests, arith}
+use Rattle.std.proofs.Common.{◌≡◌, ℕ, zero, suc, ◌+◌, ◌<◌, ◌≤◌, Bool, true, false, cond, is_some, List, [], ◌∷◌, ◌++◌, map, append-nil, Some, None, Option, MatchOption, IsSomeAnd, IfSome, unwrap_or, sym, refl, ap, ◌∙◌, subst, rules, tests, arith}
 use Rattle.std.specs.Iterator.{ActsAsOnTwo}
 use Rattle.std.specs.Iterator.Runs.{Run, AnyItem, AllItems, RelatesRuns, IsReduceRun}
 use Rattle.std.specs.List.{filter, fold, reduce, range_with_len}
@@ -7,8 +7,9 @@ use Rattle.std.specs.Ordering.{nat_cmp, is_lt}
 use Rattle.std.specs.Range.{range_inclusive_start, range_inclusive_end, range_inclusive_exhausted}
 use Rattle.std.proofs.iter.runs.Sources.{nat_range_inclusive_steps, inclusive_listed}
 use Rattle.std.proofs.lemmas.Iterator.Adapters.{option_map_id}
-use Rattle.std.proofs.lemmas.List.{map-id}
-use Rattle.std.proofs.lemmas.List.FromFn.{fill_by_all}
+use Rattle.std.proofs.lemmas.List.{nil_from_length}
+use Rattle.std.proofs.lemmas.List.Sums.{fold-append}
+use Rattle.std.proofs.lemmas.List.FromFn.{fill_by_all, filter_of_map_range_with_len_more}
 use Rattle.family.specs.Order.{Order}
 use Rattle.family.specs.Slots.{Cards, slot_before}
 use Rattle.envelope.specs.Lead.{every_slot, succeeding, going_on, leader_below}
@@ -23,20 +24,15 @@ module _ (q : Run nat_range_inclusive_steps) (n : ℕ) (first : range_inclusive_
       let len : q.len ≡ n = omega (arith, (up fresh).0.1 whole) in
       (len, λ k below. let at : a + k ≡ k = omega arith in sym (option_map_id (q.at k)) ∙ rw at at ((up fresh).0.3 k (omega arith)))
 
-  pub counted : q.items ≡ range_with_len 0 n
+  pub counted : q.items ≡ map (λ k. k) (range_with_len 0 n)
   counted =
       fill_by_all (λ k. k) q.items n 0 (omega (arith, q.long, counts.0))
       (λ k below. ap (λ o. unwrap_or o 0) (sym (q.reads k 0 (omega (arith, counts.0))) ∙ option_map_id (q.at k) ∙ counts.1 k below))
-      ∙ map-id (range_with_len 0 n)
 
 -- what `reduce` gives
 pub reduced : {S A F : Type 0} {steps : S → Option A → S → Type 0} (p : Run steps) (g : Mut F (A × (A × Unit {0})) A) (f : F) (h : A → A → A) (r : Option A)
     → ActsAsOnTwo g f h → MatchOption r (p.len ≡ 0) (IsReduceRun p g f) → r ≡ reduce h p.items
-reduced {A = A} p g f h None acts none = nothing p.items (omega (arith, p.long))
-  where
-    nothing : (xs : List A) → length xs ≡ 0 → None ≡ reduce h xs
-    nothing [] _ = refl
-    nothing (x ∷ xs) e = absurd (omega arith)
+reduced p g f h None acts none = rw (nil_from_length p.items (omega (arith, p.long))) refl
 reduced p g f h (Some y) acts (some, (x, xs, are, is)) = rw are (ap Some (is h acts))
 
 -- The leader of all slots, told by a chain: each slot that holds a card overtakes the leader before it or not.
@@ -47,44 +43,30 @@ module _ {C : Type 0} (before : Order C) (cards : Cards C) (t : ℕ) where
   abbrev pub standing : ℕ → Bool
   standing k = is_some (cards k)
 
-  abbrev leads_at : ℕ → Option ℕ
-  leads_at n = leader_below before cards every_slot t n
-
-  -- what the chain makes of further slots
-  abbrev onward : Option ℕ → List ℕ → Option ℕ
-  onward None ks = reduce leading ks
-  onward (Some b) ks = Some (fold leading b ks)
-
-  one_stands : (best : Option ℕ) (k : ℕ) (ks : List ℕ) → onward best (k ∷ ks) ≡ onward (succeeding before cards t best k) ks
-  one_stands None k ks = refl
-  one_stands (Some b) k ks = by_test (slot_before before cards b k t)
+  one_stands : (ks : List ℕ) (k : ℕ) → reduce leading (ks ++ k ∷ []) ≡ succeeding before cards t (reduce leading ks) k
+  one_stands [] k = refl
+  one_stands (b ∷ ks) k = ap Some (fold-append leading b ks (k ∷ [])) ∙ by_test (fold leading b ks) (slot_before before cards (fold leading b ks) k t)
     where
-      by_test : (x : Bool) → Some (fold leading (cond x b k) ks) ≡ onward (cond x (Some b) (Some k)) ks
-      by_test true = refl
-      by_test false = refl
+      by_test : (best : ℕ) (x : Bool) → Some (cond x best k) ≡ cond x (Some best) (Some k)
+      by_test best true = refl
+      by_test best false = refl
 
-  one_more : (best : Option ℕ) (k : ℕ) (ks : List ℕ) → onward best (filter standing (k ∷ ks)) ≡ onward (going_on before cards every_slot t k best) (filter standing ks)
-  one_more best k ks = by_test (standing k)
+  one_more : (ks : List ℕ) (k : ℕ) (r : Option ℕ) → reduce leading ks ≡ r → reduce leading (ks ++ cond (standing k) (k ∷ []) []) ≡ going_on before cards every_slot t k r
+  one_more ks k r e = by_test (standing k)
     where
-      by_test : (x : Bool) → onward best (cond x (k ∷ filter standing ks) (filter standing ks)) ≡ onward (cond x (succeeding before cards t best k) best) (filter standing ks)
-      by_test true = one_stands best k (filter standing ks)
-      by_test false = refl
+      by_test : (x : Bool) → reduce leading (ks ++ cond x (k ∷ []) []) ≡ cond x (succeeding before cards t r k) r
+      by_test true = rw (← e) (one_stands ks k)
+      by_test false = rw append-nil e
 
-  led_from : (n a : ℕ) → onward (leads_at a) (filter standing (range_with_len a n)) ≡ leads_at (a + n)
+  pub led_by_chain : (n : ℕ) → reduce leading (filter standing (map (λ k. k) (range_with_len 0 n))) ≡ leader_below before cards every_slot t n
   unfolding leader_below
-  led_from zero a = rw add-zero (none_more (leads_at a))
-    where
-      none_more : (best : Option ℕ) → onward best [] ≡ best
-      none_more None = refl
-      none_more (Some b) = refl
-  led_from (suc n) a =
-      let next : a + 1 ≡ suc a = omega arith in
-      let on : suc a + n ≡ a + suc n = omega arith in
-      one_more (leads_at a) a (range_with_len (a + 1) n) ∙ rw next (rw on at (led_from n (suc a)))
-
-  pub led_by_chain : (n : ℕ) → reduce leading (filter standing (range_with_len 0 n)) ≡ leader_below before cards every_slot t n
-  unfolding leader_below
-  led_by_chain n = let on : 0 + n ≡ n = omega arith in rw on at (led_from n 0)
+  led_by_chain zero = refl
+  led_by_chain (suc n) =
+      let on : suc n ≡ n + 1 = omega arith in
+      let slots : ℕ → List ℕ = λ m. filter standing (map (λ k. k) (range_with_len 0 m)) in
+      ap (λ m. reduce leading (slots m)) on
+      ∙ ap (reduce leading) (filter_of_map_range_with_len_more standing (λ k. k) 0 n n (omega arith))
+      ∙ one_more (slots n) n (leader_below before cards every_slot t n) (led_by_chain n)
 
 -- `map` and then `min`, where R, and so Q, holds of each slot and what it is mapped to: the least is one of these, and none is less
 module _ {S T : Type 0} {steps : S → Option ℕ → S → Type 0} {source : T → Option ℕ → T → Type 0} (p : Run steps) (q : Run source) (R Q : ℕ → ℕ → Type 0) (n : ℕ) where

@@ -44,6 +44,7 @@ fn set_up<F: Family<Card = Hopper>>(
     ensures order { F.before family.new ≡ F.before family.old }
 {
     let mut attempts = Vec::new(heap);
+    // A loop, since each turn changes the family: after a chain nothing is known of what its closure changed.
     for reading in readings {
         attempts.push(Attempt {
             reading: *reading,

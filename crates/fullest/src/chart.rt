@@ -26,6 +26,7 @@ pub fn stretches<F: PricedFamily>(
 #[derive(Drop)]
 struct StretchesFrom<'a, F> {
     family: &'a F,
+    // One past the last time where the chart is told to its end.
     first: u32,
 }
 
@@ -36,6 +37,7 @@ impl<F: PricedFamily> Iterator for StretchesFrom<'_, F> {
 
     ghost remaining = { λ s. at_most (last_time + 1 - s.first) };
 
+    // None past the last time, and where no card stands.
     fn next(&mut self) -> Option<PricedStretch> {
         let first = self.first;
         if first > LAST_TIME {

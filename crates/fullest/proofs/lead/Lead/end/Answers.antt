@@ -1,4 +1,4 @@
-use Rattle.std.proofs.Common.{rules, ◌≡◌, ℕ, unwrap_or, ◌∙◌, arith}
+use Rattle.std.proofs.Common.{rules, Some, ◌≡◌, ℕ, unwrap_or, ◌∙◌, arith}
 use Rattle.fullest.specs.Lasting.{Lasting}
 use Rattle.envelope.specs.Lead.{every_slot, Ahead}
 use Rattle.fullest.proofs.Beaten.{leads, leads_on}
@@ -10,7 +10,7 @@ returns g c =
     let l = c.args.self.now in
     let before = g.F.Family.before l.family.now in
     let cards = g.F.CardSlots.slots l.family.now in
-    let leader = leads before (g.met.F.Family.ordered l.family.now) cards l.since.number l.slot l.leads in
+    let leader = leads before (g.met.F.Family.ordered l.family.now) cards l.since.number (Some l.slot) l.leads in
     let (p, from, whole, picks) = c.min.ensures.runs in
     let (q, start, maps) = c.map.ensures.runs p p.seen from in
     let (len, at) = counts q 256 (search rules) (search rules) (search rules) (search rules) in
