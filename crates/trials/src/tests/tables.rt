@@ -1,10 +1,13 @@
 // Tables to hold any family to that has a card in slot 0, one in slot 1, and nothing else; and one for cards.
 use crate::tests::made::Made;
 use cards::PricedCard;
-use family::{CardSlots, Family, LAST_TIME, Priced, PricedFamily, Refusal};
+use family::{CardSlots, Family, Priced, PricedFamily, Refusal};
 use std::fmt::Debug;
 use std::process::Abort;
 use std::test::Fail;
+
+// The last time, by a name that leaves a row on one line.
+pub use family::LAST_TIME as LAST;
 
 // A start and an end; then the next exchange of slots 0 and 1, and of 1 and 0: when "slot 0 is at or before
 // slot 1" changes, and when "slot 1 is at or before slot 0" does.
@@ -36,14 +39,14 @@ pub fn told<F: Family>(rt: &impl Abort, family: &F, i: u8, j: u8, times: &[u32])
     let mut t = 0;
     for &u in times {
         assert_eq!(rt;
-            family.next_exchange(i, j, t, LAST_TIME),
+            family.next_exchange(i, j, t, LAST),
             Some(u),
             "slots {i} and {j} from {t}"
         );
         t = u;
     }
     assert_eq!(rt;
-        family.next_exchange(i, j, t, LAST_TIME),
+        family.next_exchange(i, j, t, LAST),
         None,
         "slots {i} and {j} from {t}"
     );

@@ -2,8 +2,8 @@
 use crate::tests::both_ways::{both_ways, every_minute_both_ways};
 use crate::tests::made::{Line, pair};
 use crate::tests::random::{Random, small_line};
-use crate::tests::tables::{both_ordered, empty_slots_last};
-use family::{Family, LAST_TIME};
+use crate::tests::tables::{LAST, both_ordered, empty_slots_last};
+use family::Family;
 use std::test::Fail;
 
 #[test]
@@ -12,54 +12,19 @@ fn signs(rt: HostRuntime) -> Result<(), Fail> {
         &rt,
         &[
             // the gap is above 0 and closes, on a minute
-            (
-                Line(500, 10),
-                Line(800, 4),
-                0,
-                LAST_TIME,
-                Some(51),
-                Some(50),
-            ),
+            (Line(500, 10), Line(800, 4), 0, LAST, Some(51), Some(50)),
             // below 0
-            (
-                Line(800, 4),
-                Line(500, 10),
-                0,
-                LAST_TIME,
-                Some(50),
-                Some(51),
-            ),
+            (Line(800, 4), Line(500, 10), 0, LAST, Some(50), Some(51)),
             // above 0, between two minutes
-            (
-                Line(500, 10),
-                Line(801, 4),
-                0,
-                LAST_TIME,
-                Some(51),
-                Some(51),
-            ),
+            (Line(500, 10), Line(801, 4), 0, LAST, Some(51), Some(51)),
             // below 0, between two minutes
-            (
-                Line(801, 4),
-                Line(500, 10),
-                0,
-                LAST_TIME,
-                Some(51),
-                Some(51),
-            ),
+            (Line(801, 4), Line(500, 10), 0, LAST, Some(51), Some(51)),
             // the gap is above 0 and opens: they met before opening
-            (Line(500, 4), Line(801, 10), 0, LAST_TIME, None, None),
+            (Line(500, 4), Line(801, 10), 0, LAST, None, None),
             // below 0
-            (Line(801, 10), Line(500, 4), 0, LAST_TIME, None, None),
+            (Line(801, 10), Line(500, 4), 0, LAST, None, None),
             // both drain
-            (
-                Line(1_000, -7),
-                Line(900, -2),
-                0,
-                LAST_TIME,
-                Some(20),
-                Some(21),
-            ),
+            (Line(1_000, -7), Line(900, -2), 0, LAST, Some(20), Some(21)),
         ],
     )
 }
@@ -70,24 +35,17 @@ fn ties(rt: HostRuntime) -> Result<(), Fail> {
         &rt,
         &[
             // the same hopper twice
-            (Line(7, 3), Line(7, 3), 0, LAST_TIME, None, None),
+            (Line(7, 3), Line(7, 3), 0, LAST, None, None),
             // one rate and another fill
-            (Line(7, 3), Line(8, 3), 0, LAST_TIME, None, None),
+            (Line(7, 3), Line(8, 3), 0, LAST, None, None),
             // level at opening, and the first gains
-            (Line(9, 1), Line(9, 0), 0, LAST_TIME, Some(1), None),
+            (Line(9, 1), Line(9, 0), 0, LAST, Some(1), None),
             // level at opening, and the first loses
-            (Line(9, -1), Line(9, 0), 0, LAST_TIME, None, Some(1)),
+            (Line(9, -1), Line(9, 0), 0, LAST, None, Some(1)),
             // asked just before the tie, at it and just after it
-            (
-                Line(500, 10),
-                Line(800, 4),
-                49,
-                LAST_TIME,
-                Some(51),
-                Some(50),
-            ),
-            (Line(500, 10), Line(800, 4), 50, LAST_TIME, Some(51), None),
-            (Line(500, 10), Line(800, 4), 51, LAST_TIME, None, None),
+            (Line(500, 10), Line(800, 4), 49, LAST, Some(51), Some(50)),
+            (Line(500, 10), Line(800, 4), 50, LAST, Some(51), None),
+            (Line(500, 10), Line(800, 4), 51, LAST, None, None),
         ],
     )
 }
@@ -106,40 +64,12 @@ fn ends(rt: HostRuntime) -> Result<(), Fail> {
             (c, d, 49, 49, None, None),
             (c, d, 40, 30, None, None),
             // level at the last minute but one, at the last, and past it
-            (
-                gains,
-                Line(999_999, 0),
-                0,
-                LAST_TIME,
-                Some(LAST_TIME),
-                Some(999_999),
-            ),
-            (
-                gains,
-                Line(1_000_000, 0),
-                0,
-                LAST_TIME,
-                None,
-                Some(LAST_TIME),
-            ),
-            (gains, Line(1_000_001, 0), 0, LAST_TIME, None, None),
+            (gains, Line(999_999, 0), 0, LAST, Some(LAST), Some(999_999)),
+            (gains, Line(1_000_000, 0), 0, LAST, None, Some(LAST)),
+            (gains, Line(1_000_001, 0), 0, LAST, None, None),
             // an end past the last minute is read as the last, and so is a start
-            (
-                gains,
-                Line(1_000_000, 0),
-                0,
-                u32::MAX,
-                None,
-                Some(LAST_TIME),
-            ),
-            (
-                gains,
-                Line(1_000_000, 0),
-                LAST_TIME + 1,
-                u32::MAX,
-                None,
-                None,
-            ),
+            (gains, Line(1_000_000, 0), 0, u32::MAX, None, Some(LAST)),
+            (gains, Line(1_000_000, 0), LAST + 1, u32::MAX, None, None),
         ],
     )
 }
@@ -151,8 +81,8 @@ fn largest_rates(rt: HostRuntime) -> Result<(), Fail> {
     both_ways(
         &rt,
         &[
-            (full, empty, 0, LAST_TIME, Some(500), Some(501)),
-            (empty, full, 0, LAST_TIME, Some(501), Some(500)),
+            (full, empty, 0, LAST, Some(500), Some(501)),
+            (empty, full, 0, LAST, Some(501), Some(500)),
         ],
     )
 }

@@ -1,8 +1,8 @@
 // Piles of three layers over the sample and over hoppers.
 use super::sample;
 use crate::tests::made::{Fee, Line, Made, pair};
-use crate::tests::tables::{UNTOUCHED, both_told, kept};
-use family::{CardSlots, Family, LAST_TIME, PricedFamily, Refusal};
+use crate::tests::tables::{LAST, UNTOUCHED, both_told, kept};
+use family::{CardSlots, Family, PricedFamily, Refusal};
 use hoppers::Hoppers;
 use layers::{
     LateMirrorLate, LateStart, Mirror, amount_in_pile, compare_in_pile, exchange_in_pile,
@@ -12,7 +12,7 @@ use std::process::Abort;
 use std::test::Fail;
 
 // Times to ask at: about the exchanges of the families, and about the last time.
-const TIMES: [u32; 9] = [0, 1, 34, 216, 217, 999_965, 999_966, LAST_TIME, u32::MAX];
+const TIMES: [u32; 9] = [0, 1, 34, 216, 217, 999_965, 999_966, LAST, u32::MAX];
 
 // Two slots, of which 9 is empty.
 const SLOTS: [(u8, u8); 5] = [(0, 1), (1, 0), (0, 9), (9, 0), (9, 9)];
@@ -27,8 +27,8 @@ fn same_orders<A: Family, B: Family>(rt: &impl Abort, a: &A, b: &B, t: u32) {
     for &(i, j) in &SLOTS {
         assert_eq!(rt; a.compare(i, j, t), b.compare(i, j, t));
         assert_eq!(rt;
-            a.next_exchange(i, j, t, LAST_TIME),
-            b.next_exchange(i, j, t, LAST_TIME)
+            a.next_exchange(i, j, t, LAST),
+            b.next_exchange(i, j, t, LAST)
         );
     }
 }
@@ -58,8 +58,8 @@ fn in_pile<F: PricedFamily, B: PricedFamily>(
     for &(i, j) in &SLOTS {
         assert_eq!(rt; compare_in_pile(pile, i, j, t), b.compare(i, j, t));
         assert_eq!(rt;
-            exchange_in_pile(pile, i, j, t, LAST_TIME),
-            b.next_exchange(i, j, t, LAST_TIME)
+            exchange_in_pile(pile, i, j, t, LAST),
+            b.next_exchange(i, j, t, LAST)
         );
         assert_eq!(rt; amount_in_pile(pile, i, t), b.amount_at(i, t));
     }
@@ -122,7 +122,7 @@ fn level_late() -> Result<Hoppers, Refusal> {
 }
 
 const LEVEL_LATE: [Row<'static>; 6] = [
-    (0, 0, &[999_999], &[LAST_TIME]),
+    (0, 0, &[999_999], &[LAST]),
     (10, 24, &[999_965], &[999_966]),
     (400_000, 599_998, &[1], &[2]),
     (1, 999_998, &[], &[1]),
