@@ -1,6 +1,7 @@
 // Piles of three layers over the sample and over hoppers.
 use super::sample;
-use crate::tests::made::{Fee, Line, Made, pair};
+use crate::tests::fee::{C, D};
+use crate::tests::made::{Line, Made, pair};
 use crate::tests::tables::{LAST, both_told, kept, run_of};
 use family::{CardSlots, Family, PricedFamily, Refusal};
 use hoppers::Hoppers;
@@ -133,7 +134,7 @@ fn kept_in_layers<C: Copy + Debug + PartialEq, F: CardSlots<Card = C> + Drop>(
 
 #[test]
 fn a_sample_kept(rt: HostRuntime) -> Result<(), Fail> {
-    let (c, d) = (Fee(100, 2, 1_000).card()?, Fee(0, 5, 600).card()?);
+    let (c, d) = (C.card()?, D.card()?);
     kept_in_layers(&rt, sample()?, c, d, c);
     Ok(())
 }
