@@ -1,10 +1,13 @@
 // Tables to hold any family to that has a card in slot 0, one in slot 1, and nothing else; and one for cards.
 use crate::tests::made::Made;
 use cards::PricedCard;
-use family::{CardSlots, Family, LAST_TIME, Priced, PricedFamily, Refusal};
+use family::{CardSlots, Family, Priced, PricedFamily, Refusal};
 use std::fmt::Debug;
 use std::process::Abort;
 use std::test::Fail;
+
+// The last time, by a name that leaves a row on one line.
+pub use family::LAST_TIME as LAST;
 
 // A start and an end; then the next exchange of slots 0 and 1, and of 1 and 0: when "slot 0 is at or before
 // slot 1" changes, and when "slot 1 is at or before slot 0" does.
@@ -36,14 +39,14 @@ pub fn told<F: Family>(rt: &impl Abort, family: &F, i: u8, j: u8, times: &[u32])
     let mut t = 0;
     for &u in times {
         assert_eq!(rt;
-            family.next_exchange(i, j, t, LAST_TIME),
+            family.next_exchange(i, j, t, LAST),
             Some(u),
             "slots {i} and {j} from {t}"
         );
         t = u;
     }
     assert_eq!(rt;
-        family.next_exchange(i, j, t, LAST_TIME),
+        family.next_exchange(i, j, t, LAST),
         None,
         "slots {i} and {j} from {t}"
     );
@@ -75,7 +78,7 @@ pub fn both_ordered<F: Family>(rt: &impl Abort, family: &F, rows: &[BothOrders])
 }
 
 // A filled slot is at or before an empty one, an empty one is not at or before a filled one, and two empty ones
-// are level. Of none of them does that change, and so of a slot and itself.
+// are level. None of that ever changes, and neither does the order of a slot and itself.
 pub fn empty_slots_last<F: Family>(rt: &impl Abort, family: &F) {
     ordered(
         rt,
@@ -112,14 +115,25 @@ pub fn comes_to<C: PricedCard, M: Made<Card = C>>(
 // What three cells hold before a run.
 pub const UNTOUCHED: [i64; 3] = [7, 7, 7];
 
+// The answer to a run for some of three cells, and what the three hold then.
+pub fn run_of<P: Priced>(
+    family: &P,
+    slot: u8,
+    first: u32,
+    count: usize,
+) -> (Result<(), Refusal>, [i64; 3]) {
+    let mut cells = UNTOUCHED;
+    let answer = family.amounts(slot, first, &mut cells[..count.min(3)]);
+    (answer, cells)
+}
+
 // A slot, a first time, how many of three cells the run is for, the answer, and what the three hold then.
 pub type Run = (u8, u32, usize, Result<(), Refusal>, [i64; 3]);
 
 pub fn runs<P: Priced>(rt: &impl Abort, family: &P, rows: &[Run]) {
     for &(slot, first, count, answer, told) in rows {
-        let mut cells = UNTOUCHED;
-        let found = family.amounts(slot, first, &mut cells[..count.min(3)]);
-        assert_eq!(rt; (found, cells), (answer, told), "slot {slot} from {first}");
+        let found = run_of(family, slot, first, count);
+        assert_eq!(rt; found, (answer, told), "slot {slot} from {first}");
     }
 }
 
@@ -150,7 +164,8 @@ pub fn tells<F: PricedFamily>(rt: &impl Abort, family: &F, table: Table<'_>) {
     runs(rt, family, table.runs);
 }
 
-// Put, lift and card: of a family with c in slot 0 and d in slot 1, which a third card leaves as it was.
+// Put, lift and card, of a family with c in slot 0 and d in slot 1, as it has again in the end. The third card may
+// be one of the two.
 pub fn kept<C: Copy + Debug + PartialEq, F: CardSlots<Card = C>>(
     rt: &impl Abort,
     family: &mut F,
@@ -169,7 +184,7 @@ pub fn kept<C: Copy + Debug + PartialEq, F: CardSlots<Card = C>>(
         assert_eq!(rt;
             family.card(slot),
             Some(third),
-            "the card stands, which may be that lifted from slot 1"
+            "the card in the other slot stands"
         );
         assert_eq!(rt; family.put(1, d), Ok(()));
         assert_eq!(rt; family.lift(slot), Ok(()));

@@ -1,7 +1,8 @@
 // That a time told for two cards turns the difference of their amounts.
 use crate::tests::made::{Made, pair};
+use crate::tests::tables::LAST;
 use cards::TurningCard;
-use family::{LAST_TIME, Priced};
+use family::Priced;
 use std::process::Abort;
 use std::test::Fail;
 
@@ -31,7 +32,7 @@ pub fn turned<P: Priced>(rt: &impl Abort, family: &P, turn: u32) {
         let middle = turn.max(first).min(last);
         assert!(rt; steady(family, first, middle) && steady(family, middle, last));
     }
-    assert!(rt; turn <= LAST_TIME);
+    assert!(rt; turn <= LAST);
 }
 
 // The time told for two cards, which turns them.

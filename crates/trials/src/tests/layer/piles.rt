@@ -1,8 +1,9 @@
 // Piles of three layers over the sample and over hoppers.
 use super::sample;
-use crate::tests::made::{Fee, Line, Made, pair};
-use crate::tests::tables::{UNTOUCHED, both_told, kept};
-use family::{CardSlots, Family, LAST_TIME, PricedFamily, Refusal};
+use crate::tests::fee::{C, D};
+use crate::tests::made::{Line, Made, pair};
+use crate::tests::tables::{LAST, both_told, kept, run_of};
+use family::{CardSlots, Family, PricedFamily, Refusal};
 use hoppers::Hoppers;
 use layers::{
     LateMirrorLate, LateStart, Mirror, amount_in_pile, compare_in_pile, exchange_in_pile,
@@ -12,56 +13,53 @@ use std::process::Abort;
 use std::test::Fail;
 
 // Times to ask at: about the exchanges of the families, and about the last time.
-const TIMES: [u32; 9] = [0, 1, 34, 216, 217, 999_965, 999_966, LAST_TIME, u32::MAX];
+const TIMES: [u32; 9] = [0, 1, 34, 216, 217, 999_965, 999_966, LAST, u32::MAX];
 
 // Two slots, of which 9 is empty.
 const SLOTS: [(u8, u8); 5] = [(0, 1), (1, 0), (0, 9), (9, 0), (9, 9)];
 
-// The answer to a run for three cells, and what they hold then.
-fn run_of<F: PricedFamily>(family: &F, slot: u8, t: u32) -> (Result<(), Refusal>, [i64; 3]) {
-    let mut cells = UNTOUCHED;
-    (family.amounts(slot, t, &mut cells), cells)
-}
-
-fn same_orders<A: Family, B: Family>(rt: &impl Abort, a: &A, b: &B, t: u32) {
-    for &(i, j) in &SLOTS {
-        assert_eq!(rt; a.compare(i, j, t), b.compare(i, j, t));
-        assert_eq!(rt;
-            a.next_exchange(i, j, t, LAST_TIME),
-            b.next_exchange(i, j, t, LAST_TIME)
-        );
-    }
-}
-
-fn same_amounts<A: PricedFamily, B: PricedFamily>(rt: &impl Abort, a: &A, b: &B, t: u32) {
-    for slot in [0, 1, 9] {
-        assert_eq!(rt; a.amount_at(slot, t), b.amount_at(slot, t));
-        assert_eq!(rt; run_of(a, slot, t), run_of(b, slot, t));
-    }
-}
-
+// Two families tell the same.
 fn same<A: PricedFamily, B: PricedFamily>(rt: &impl Abort, a: &A, b: &B) {
-    for &t in &TIMES {
-        same_orders(rt, a, b, t);
-        same_amounts(rt, a, b, t);
-    }
     assert_eq!(rt; a.bound(), b.bound());
+    for t in TIMES {
+        for (i, j) in SLOTS {
+            assert_eq!(rt;
+                a.compare(i, j, t),
+                b.compare(i, j, t),
+                "slots {i} and {j} at {t}"
+            );
+            assert_eq!(rt;
+                a.next_exchange(i, j, t, LAST),
+                b.next_exchange(i, j, t, LAST),
+                "slots {i} and {j} from {t}"
+            );
+        }
+        for slot in [0, 1, 9] {
+            assert_eq!(rt;
+                a.amount_at(slot, t),
+                b.amount_at(slot, t),
+                "slot {slot} at {t}"
+            );
+            assert_eq!(rt;
+                run_of(a, slot, t, 3),
+                run_of(b, slot, t, 3),
+                "slot {slot} from {t}"
+            );
+        }
+    }
 }
 
 // The functions for piles tell of a pile what another family tells.
-fn in_pile<F: PricedFamily, B: PricedFamily>(
-    rt: &impl Abort,
-    pile: &LateMirrorLate<F>,
-    b: &B,
-    t: u32,
-) {
-    for &(i, j) in &SLOTS {
-        assert_eq!(rt; compare_in_pile(pile, i, j, t), b.compare(i, j, t));
-        assert_eq!(rt;
-            exchange_in_pile(pile, i, j, t, LAST_TIME),
-            b.next_exchange(i, j, t, LAST_TIME)
-        );
-        assert_eq!(rt; amount_in_pile(pile, i, t), b.amount_at(i, t));
+fn in_pile<F: PricedFamily, B: PricedFamily>(rt: &impl Abort, pile: &LateMirrorLate<F>, b: &B) {
+    for t in TIMES {
+        for (i, j) in SLOTS {
+            assert_eq!(rt; compare_in_pile(pile, i, j, t), b.compare(i, j, t));
+            assert_eq!(rt;
+                exchange_in_pile(pile, i, j, t, LAST),
+                b.next_exchange(i, j, t, LAST)
+            );
+            assert_eq!(rt; amount_in_pile(pile, i, t), b.amount_at(i, t));
+        }
     }
 }
 
@@ -69,31 +67,14 @@ fn in_pile<F: PricedFamily, B: PricedFamily>(
 // slot 1" changes, and all at which "slot 1 is at or before slot 0" does.
 type Row<'a> = (u32, u32, &'a [u32], &'a [u32]);
 
-// The first is a pile, and the second is to tell the same.
-fn told_alike<F: PricedFamily, B: PricedFamily>(
-    rt: &impl Abort,
-    pile: &LateMirrorLate<F>,
-    once: &B,
-    forth: &[u32],
-    back: &[u32],
-) {
-    both_told(rt, once, forth, back);
-    for &t in &TIMES {
-        in_pile(rt, pile, once, t);
-    }
-    same(rt, pile, once);
-}
-
 // A pile over one family is the mirror of one late start over another with the same cards.
 fn piled<F: PricedFamily + Drop>(rt: &impl Abort, one: F, other: F, row: Row<'_>) {
     let (a, b, forth, back) = row;
-    told_alike(
-        rt,
-        &LateStart::new(Mirror(LateStart::new(one, a)), b),
-        &Mirror(LateStart::new(other, a.saturating_add(b))),
-        forth,
-        back,
-    );
+    let pile = LateStart::new(Mirror(LateStart::new(one, a)), b);
+    let once = Mirror(LateStart::new(other, a.saturating_add(b)));
+    both_told(rt, &once, forth, back);
+    in_pile(rt, &pile, &once);
+    same(rt, &pile, &once);
 }
 
 // The sample, level at 250.
@@ -110,7 +91,7 @@ const SAMPLE: [Row<'static>; 8] = [
 
 #[test]
 fn over_a_sample(rt: HostRuntime) -> Result<(), Fail> {
-    for &row in &SAMPLE {
+    for row in SAMPLE {
         piled(&rt, sample()?, sample()?, row);
     }
     Ok(())
@@ -122,7 +103,7 @@ fn level_late() -> Result<Hoppers, Refusal> {
 }
 
 const LEVEL_LATE: [Row<'static>; 6] = [
-    (0, 0, &[999_999], &[LAST_TIME]),
+    (0, 0, &[999_999], &[LAST]),
     (10, 24, &[999_965], &[999_966]),
     (400_000, 599_998, &[1], &[2]),
     (1, 999_998, &[], &[1]),
@@ -132,7 +113,7 @@ const LEVEL_LATE: [Row<'static>; 6] = [
 
 #[test]
 fn over_hoppers(rt: HostRuntime) -> Result<(), Fail> {
-    for &row in &LEVEL_LATE {
+    for row in LEVEL_LATE {
         piled(&rt, level_late()?, level_late()?, row);
     }
     Ok(())
@@ -153,7 +134,7 @@ fn kept_in_layers<C: Copy + Debug + PartialEq, F: CardSlots<Card = C> + Drop>(
 
 #[test]
 fn a_sample_kept(rt: HostRuntime) -> Result<(), Fail> {
-    let (c, d) = (Fee(100, 2, 1_000).card()?, Fee(0, 5, 600).card()?);
+    let (c, d) = (C.card()?, D.card()?);
     kept_in_layers(&rt, sample()?, c, d, c);
     Ok(())
 }

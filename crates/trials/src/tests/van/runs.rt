@@ -41,7 +41,7 @@ fn three_cells(rt: HostRuntime) -> Result<(), Fail> {
     Ok(())
 }
 
-fn kept_by<F: Family<Card = Van>>(rt: &impl Abort, family: &mut F) -> Result<(), Fail> {
+fn keeps<F: Family<Card = Van>>(rt: &impl Abort, family: &mut F) -> Result<(), Fail> {
     kept(rt, family, C.card()?, D.card()?, D.card()?);
     assert_eq!(rt; family.bound(), 2);
     Ok(())
@@ -49,6 +49,6 @@ fn kept_by<F: Family<Card = Van>>(rt: &impl Abort, family: &mut F) -> Result<(),
 
 #[test]
 fn slots_kept(rt: HostRuntime) -> Result<(), Fail> {
-    kept_by(&rt, &mut pair(C, D)?)?;
-    kept_by(&rt, &mut adapted(C, D)?)
+    keeps(&rt, &mut pair(C, D)?)?;
+    keeps(&rt, &mut adapted(C, D)?)
 }

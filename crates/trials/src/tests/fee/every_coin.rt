@@ -1,8 +1,8 @@
 // When two fee cards trade places, by looking at every number of coins, and at some of many.
 use crate::tests::made::{Fee, adapted};
 use crate::tests::random::{Random, next_random, small_fee};
-use crate::tests::tables::{answered, looked_up};
-use family::{Family, LAST_TIME};
+use crate::tests::tables::{LAST, answered, looked_up};
+use family::Family;
 use std::test::Fail;
 
 #[test]
@@ -39,8 +39,8 @@ fn unchanged<F: Family>(family: &F, i: u8, j: u8, t: u32, last: u32) -> bool {
 // Up to one before the told time nothing is seen to change, and then the fact differs. Where no time is told,
 // nothing is seen to change up to the last time.
 fn first_seen<F: Family>(family: &F, i: u8, j: u8, t: u32) -> bool {
-    let Some(u) = family.next_exchange(i, j, t, LAST_TIME) else {
-        return unchanged(family, i, j, t, LAST_TIME);
+    let Some(u) = family.next_exchange(i, j, t, LAST) else {
+        return unchanged(family, i, j, t, LAST);
     };
     let last = u.saturating_sub(1);
     t < u && unchanged(family, i, j, t, last) && !unchanged(family, i, j, last, u)

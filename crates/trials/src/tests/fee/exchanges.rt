@@ -1,8 +1,8 @@
 // When two fee cards trade places, by hand.
 use super::{C, D};
 use crate::tests::made::{Fee, adapted};
-use crate::tests::tables::{Order, answered, both_told, empty_slots_last, ordered};
-use family::{Family, LAST_TIME};
+use crate::tests::tables::{LAST, Order, answered, both_told, empty_slots_last, ordered};
+use family::Family;
 use std::process::Abort;
 use std::test::Fail;
 
@@ -139,21 +139,16 @@ fn last_coins(rt: HostRuntime) -> Result<(), Fail> {
         &rt,
         &[
             // no cap is reached: level at the last time but one, at the last, and past it
-            (ONE, STILL, &[LAST_TIME], &[999_999]),
-            (ONE, Fee(1_000_000, 0, FAR), &[], &[LAST_TIME]),
+            (ONE, STILL, &[LAST], &[999_999]),
+            (ONE, Fee(1_000_000, 0, FAR), &[], &[LAST]),
             (ONE, Fee(1_000_001, 0, FAR), &[], &[]),
             // a cap is reached at the last time, and one before it
-            (Fee(0, 1, 1_000_000), STILL, &[LAST_TIME], &[999_999]),
+            (Fee(0, 1, 1_000_000), STILL, &[LAST], &[999_999]),
             (Fee(0, 1, 999_999), STILL, &[], &[999_999]),
             // dearer at the last time but one alone: the cap at the last time turns the difference back
-            (
-                Fee(0, 5, 4_999_996),
-                LATE,
-                &[999_999, LAST_TIME],
-                &[999_999],
-            ),
+            (Fee(0, 5, 4_999_996), LATE, &[999_999, LAST], &[999_999]),
             // level at the last time, where the second cap is reached too
-            (MOST, FASTEST, &[LAST_TIME], &[]),
+            (MOST, FASTEST, &[LAST], &[]),
             // the highest numbers, level early
             (FASTEST, DEAREST, &[1_001], &[1_000]),
             // the highest opening fee is passed at once
@@ -173,24 +168,24 @@ fn starts_and_ends(rt: HostRuntime) -> Result<(), Fail> {
             (0, 34, Some(34), Some(34)),
             (0, 35, Some(34), Some(34)),
             // the whole range, at whose two ends neither fact differs
-            (0, LAST_TIME, Some(34), Some(34)),
+            (0, LAST, Some(34), Some(34)),
             (33, 251, Some(34), Some(34)),
             // an end before the second exchange of either order, at it and after it
             (34, 249, None, None),
             (34, 250, None, Some(250)),
             (34, 251, Some(251), Some(250)),
-            (34, LAST_TIME, Some(251), Some(250)),
+            (34, LAST, Some(251), Some(250)),
             // a start just before, at and just after the second exchange
-            (249, LAST_TIME, Some(251), Some(250)),
-            (250, LAST_TIME, Some(251), None),
-            (251, LAST_TIME, None, None),
+            (249, LAST, Some(251), Some(250)),
+            (250, LAST, Some(251), None),
+            (251, LAST, None, None),
             // the end is the start, and before it
             (33, 33, None, None),
             (300, 20, None, None),
             // an end past the last time is read as the last, and so is a start
             (34, u32::MAX, Some(251), Some(250)),
-            (LAST_TIME, u32::MAX, None, None),
-            (LAST_TIME + 1, u32::MAX, None, None),
+            (LAST, u32::MAX, None, None),
+            (LAST + 1, u32::MAX, None, None),
             (u32::MAX, 34, None, None),
         ],
     );
@@ -204,14 +199,14 @@ fn past_the_last_time(rt: HostRuntime) -> Result<(), Fail> {
         &adapted(ONE, Fee(1_000_000, 0, FAR))?,
         &[
             // an exchange at the last time: asked up to it, and up to one before it
-            (0, LAST_TIME, None, Some(LAST_TIME)),
-            (0, LAST_TIME - 1, None, None),
+            (0, LAST, None, Some(LAST)),
+            (0, LAST - 1, None, None),
             // an end past it
-            (0, LAST_TIME + 1, None, Some(LAST_TIME)),
-            (LAST_TIME - 1, u32::MAX, None, Some(LAST_TIME)),
+            (0, LAST + 1, None, Some(LAST)),
+            (LAST - 1, u32::MAX, None, Some(LAST)),
             // a start at it, and past it
-            (LAST_TIME, LAST_TIME + 1, None, None),
-            (LAST_TIME + 1, u32::MAX, None, None),
+            (LAST, LAST + 1, None, None),
+            (LAST + 1, u32::MAX, None, None),
         ],
     );
     Ok(())

@@ -1,6 +1,7 @@
 // Trials of late starts, mirrors and piles of them, over hoppers and over fee cards, and of the two ways to an
 // exchange of hoppers.
-use crate::tests::made::{Fee, adapted};
+use crate::tests::fee::{C, D};
+use crate::tests::made::adapted;
 use crate::tests::tables::{Table, tells};
 use adapter::Adapter;
 use family::{PricedFamily, Refusal};
@@ -16,7 +17,7 @@ mod piles;
 
 // The sample: "slot 0 is at or before slot 1" changes at 34 and 251, and the other way round at 34 and 250.
 fn sample() -> Result<Adapter<FeeCards>, Refusal> {
-    adapted(Fee(100, 2, 1_000), Fee(0, 5, 600))
+    adapted(C, D)
 }
 
 fn tells_late<F: PricedFamily + Drop>(rt: &impl Abort, below: F, delay: u32, table: Table<'_>) {

@@ -1,8 +1,8 @@
 // Late starts: what is told of a family is what is told below some time later.
 use super::{sample, tells_late};
 use crate::tests::made::{Line, pair};
-use crate::tests::tables::{Table, both_told, ordered, priced};
-use family::{LAST_TIME, PricedFamily};
+use crate::tests::tables::{LAST, Table, both_told, ordered, priced};
+use family::PricedFamily;
 use layers::LateStart;
 use std::process::Abort;
 use std::test::Fail;
@@ -74,7 +74,7 @@ fn up_to_the_last_time(rt: HostRuntime) -> Result<(), Fail> {
         pair(Line(0, 1), Line(999_999, 0))?,
         &[
             // as below, and one minute sooner
-            (0, &[LAST_TIME], &[999_999], true, 0),
+            (0, &[LAST], &[999_999], true, 0),
             (1, &[999_999], &[999_998], true, 1),
             // one minute off, level at the start, and past it
             (999_998, &[2], &[1], true, 999_998),
@@ -96,12 +96,12 @@ const LATE_BY_34: Table<'static> = Table {
         (0, 215, None, None),
         (0, 216, None, Some(216)),
         (0, 217, Some(217), Some(216)),
-        (0, LAST_TIME, Some(217), Some(216)),
+        (0, LAST, Some(217), Some(216)),
         (0, u32::MAX, Some(217), Some(216)),
         // a start just before it, at it and just after it
-        (215, LAST_TIME, Some(217), Some(216)),
-        (216, LAST_TIME, Some(217), None),
-        (217, LAST_TIME, None, None),
+        (215, LAST, Some(217), Some(216)),
+        (216, LAST, Some(217), None),
+        (217, LAST, None, None),
         // the end is the start, and before it
         (215, 215, None, None),
         (300, 20, None, None),
@@ -129,7 +129,7 @@ const LATE_BY_34: Table<'static> = Table {
         (1, 86, Some(600)),
         (0, 415, Some(998)),
         (0, 416, Some(1_000)),
-        (0, LAST_TIME, Some(1_000)),
+        (0, LAST, Some(1_000)),
         (0, u32::MAX, Some(1_000)),
         (9, 0, None),
     ],
@@ -157,10 +157,10 @@ const LEVEL_AT_LAST: Table<'static> = Table {
         (0, 999_991, None, Some(999_990)),
         (0, u32::MAX, None, Some(999_990)),
         // from one before where the time below is the last, from there, and from past it
-        (999_989, LAST_TIME, None, Some(999_990)),
-        (999_990, LAST_TIME, None, None),
-        (999_991, LAST_TIME, None, None),
-        (LAST_TIME, u32::MAX, None, None),
+        (999_989, LAST, None, Some(999_990)),
+        (999_990, LAST, None, None),
+        (999_991, LAST, None, None),
+        (LAST, u32::MAX, None, None),
         (u32::MAX, u32::MAX, None, None),
     ],
     orders: &[

@@ -1,8 +1,8 @@
 // Which fee cards can be made, and what they charge.
 use super::{C, D};
 use crate::tests::made::{Fee, Made};
-use crate::tests::tables::comes_to;
-use family::{LAST_TIME, Refusal};
+use crate::tests::tables::{LAST, comes_to};
+use family::Refusal;
 use std::test::Fail;
 
 const HIGHEST: Fee = Fee(1_000_000_000, 1_000_000, 1_000_000_000_000);
@@ -57,9 +57,9 @@ fn charges(rt: HostRuntime) -> Result<(), Fail> {
             (Fee(100, 2, 999), 449, 998),
             (Fee(100, 2, 999), 450, 999),
             // the last time, and past it
-            (Fee(0, 1, 1_000_001), LAST_TIME - 1, 999_999),
-            (Fee(0, 1, 1_000_001), LAST_TIME, 1_000_000),
-            (Fee(0, 1, 1_000_001), LAST_TIME + 1, 1_000_000),
+            (Fee(0, 1, 1_000_001), LAST - 1, 999_999),
+            (Fee(0, 1, 1_000_001), LAST, 1_000_000),
+            (Fee(0, 1, 1_000_001), LAST + 1, 1_000_000),
             (Fee(0, 1, 1_000_001), u32::MAX, 1_000_000),
             (D, u32::MAX, 600),
         ],
@@ -74,17 +74,17 @@ fn caps(rt: HostRuntime) -> Result<(), Fail> {
             // below the opening fee: the cap throughout
             (Fee(1_000, 7, 300), 0, 300),
             (Fee(1_000, 7, 300), 1, 300),
-            (Fee(1_000, 7, 300), LAST_TIME, 300),
+            (Fee(1_000, 7, 300), LAST, 300),
             (Fee(1_000, 7, 300), u32::MAX, 300),
             // none is charged
             (Fee(100, 2, 0), 0, 0),
             (Fee(100, 2, 0), 1, 0),
-            (Fee(100, 2, 0), LAST_TIME, 0),
+            (Fee(100, 2, 0), LAST, 0),
             // the highest card reaches the highest cap, and would pass it
             (HIGHEST, 0, 1_000_000_000),
             (HIGHEST, 998_999, 999_999_000_000),
             (HIGHEST, 999_000, 1_000_000_000_000),
-            (HIGHEST, LAST_TIME, 1_000_000_000_000),
+            (HIGHEST, LAST, 1_000_000_000_000),
             (HIGHEST, u32::MAX, 1_000_000_000_000),
         ],
     )

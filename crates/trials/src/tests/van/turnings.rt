@@ -1,8 +1,8 @@
 // Turning times of two vans.
 use crate::tests::made::Path;
 use crate::tests::random::Random;
+use crate::tests::tables::LAST;
 use crate::tests::turned::turning;
-use family::LAST_TIME;
 use std::test::Fail;
 
 #[test]
@@ -14,7 +14,7 @@ fn turned_by_hand(rt: HostRuntime) -> Result<(), Fail> {
         // one that passes between minutes 2 and 3, as near at both
         (Path(200, 0, 0, 0), Path(-250, 0, 100, 0), 2, 3),
         // one that has passed before opening: any time will do
-        (Path(200, 0, 0, 0), Path(300, 0, 100, 0), 0, LAST_TIME),
+        (Path(200, 0, 0, 0), Path(300, 0, 100, 0), 0, LAST),
     ];
     for (c, d, first, last) in rows {
         let told = turning(&rt, c, d)?;

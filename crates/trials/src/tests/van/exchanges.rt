@@ -2,7 +2,7 @@
 use crate::tests::both_ways::{both_ways, every_minute_both_ways};
 use crate::tests::made::Path;
 use crate::tests::random::{Random, small_path};
-use family::LAST_TIME;
+use crate::tests::tables::LAST;
 use std::test::Fail;
 
 const STANDS: Path = Path(200, 0, 0, 0);
@@ -15,11 +15,11 @@ fn one_that_passes(rt: HostRuntime) -> Result<(), Fail> {
         &rt,
         &[
             // level at 1 and at 5
-            (STANDS, PASSES, 0, LAST_TIME, Some(2), Some(1)),
+            (STANDS, PASSES, 0, LAST, Some(2), Some(1)),
             // from one exchange to the next
-            (STANDS, PASSES, 2, LAST_TIME, Some(5), Some(6)),
-            (STANDS, PASSES, 5, LAST_TIME, None, Some(6)),
-            (STANDS, PASSES, 6, LAST_TIME, None, None),
+            (STANDS, PASSES, 2, LAST, Some(5), Some(6)),
+            (STANDS, PASSES, 5, LAST, None, Some(6)),
+            (STANDS, PASSES, 6, LAST, None, None),
             // the end is before, at and after an exchange
             (STANDS, PASSES, 0, 1, None, Some(1)),
             (STANDS, PASSES, 2, 4, None, None),
@@ -38,14 +38,14 @@ fn paths_that_touch(rt: HostRuntime) -> Result<(), Fail> {
         &rt,
         &[
             // as near at minute 3 alone
-            (far, Path(-300, 100, 100, 0), 0, LAST_TIME, None, Some(3)),
-            (far, Path(-300, 100, 100, 0), 3, LAST_TIME, None, Some(4)),
+            (far, Path(-300, 100, 100, 0), 0, LAST, None, Some(3)),
+            (far, Path(-300, 100, 100, 0), 3, LAST, None, Some(4)),
             // as near between two minutes alone
-            (far, Path(-250, 100, 100, 0), 0, LAST_TIME, None, None),
+            (far, Path(-250, 100, 100, 0), 0, LAST, None, None),
             // nearer between two minutes alone
-            (far, Path(-250, 90, 100, 0), 0, LAST_TIME, None, None),
+            (far, Path(-250, 90, 100, 0), 0, LAST, None, None),
             // never as near
-            (far, Path(-300, 101, 100, 0), 0, LAST_TIME, None, None),
+            (far, Path(-300, 101, 100, 0), 0, LAST, None, None),
         ],
     )
 }
@@ -57,40 +57,26 @@ fn equal_speeds(rt: HostRuntime) -> Result<(), Fail> {
         &rt,
         &[
             // level on a minute, and between two
-            (west, south, 0, LAST_TIME, Some(151), Some(150)),
-            (
-                west,
-                Path(0, 2_001, 0, -10),
-                0,
-                LAST_TIME,
-                Some(151),
-                Some(151),
-            ),
+            (west, south, 0, LAST, Some(151), Some(150)),
+            (west, Path(0, 2_001, 0, -10), 0, LAST, Some(151), Some(151)),
             // they part
             (
                 Path(1_000, 0, 10, 0),
                 Path(0, 2_000, 0, 10),
                 0,
-                LAST_TIME,
+                LAST,
                 None,
                 None,
             ),
             // the same van twice, and two that stand level
-            (west, west, 0, LAST_TIME, None, None),
-            (
-                Path(3, 4, 0, 0),
-                Path(-5, 0, 0, 0),
-                0,
-                LAST_TIME,
-                None,
-                None,
-            ),
+            (west, west, 0, LAST, None, None),
+            (Path(3, 4, 0, 0), Path(-5, 0, 0, 0), 0, LAST, None, None),
             // one path, a minute apart
             (
                 Path(0, 0, 1, 0),
                 Path(-1, 0, 1, 0),
                 0,
-                LAST_TIME,
+                LAST,
                 Some(1),
                 Some(1),
             ),
@@ -109,7 +95,7 @@ fn at_the_limits(rt: HostRuntime) -> Result<(), Fail> {
                 inbound,
                 Path(100_000, 100_000, 1_000, 999),
                 0,
-                LAST_TIME,
+                LAST,
                 Some(400_101),
                 Some(1),
             ),
@@ -117,7 +103,7 @@ fn at_the_limits(rt: HostRuntime) -> Result<(), Fail> {
                 inbound,
                 Path(100_000, 100_000, 1_000, 999),
                 1,
-                LAST_TIME,
+                LAST,
                 Some(400_101),
                 Some(400_101),
             ),
@@ -126,7 +112,7 @@ fn at_the_limits(rt: HostRuntime) -> Result<(), Fail> {
                 Path(100_000, 100_000, 1_000, -1_000),
                 Path(0, 0, 0, 0),
                 0,
-                LAST_TIME,
+                LAST,
                 None,
                 None,
             ),
@@ -135,7 +121,7 @@ fn at_the_limits(rt: HostRuntime) -> Result<(), Fail> {
                 inbound,
                 Path(-100_000, -100_000, 1_000, 999),
                 0,
-                LAST_TIME,
+                LAST,
                 Some(101),
                 Some(1),
             ),
@@ -143,7 +129,7 @@ fn at_the_limits(rt: HostRuntime) -> Result<(), Fail> {
                 inbound,
                 Path(100_000, 100_000, 0, 0),
                 0,
-                LAST_TIME,
+                LAST,
                 Some(201),
                 Some(1),
             ),
@@ -151,18 +137,18 @@ fn at_the_limits(rt: HostRuntime) -> Result<(), Fail> {
                 Path(100_000, -100_000, -1_000, 1_000),
                 Path(100_000, 0, 0, 0),
                 0,
-                LAST_TIME,
+                LAST,
                 Some(30),
                 Some(30),
             ),
             // one that comes through the site while another stands there
-            (inbound, Path(0, 0, 0, 0), 0, LAST_TIME, Some(100), None),
+            (inbound, Path(0, 0, 0, 0), 0, LAST, Some(100), None),
             // far on
             (
                 Path(100_000, 100_000, 0, 0),
                 Path(0, 0, 1, 0),
                 0,
-                LAST_TIME,
+                LAST,
                 Some(141_422),
                 Some(141_422),
             ),
@@ -170,7 +156,7 @@ fn at_the_limits(rt: HostRuntime) -> Result<(), Fail> {
                 Path(100_000, 0, 0, 0),
                 Path(-100_000, 0, 1, 0),
                 0,
-                LAST_TIME,
+                LAST,
                 Some(1),
                 Some(200_001),
             ),
@@ -179,15 +165,15 @@ fn at_the_limits(rt: HostRuntime) -> Result<(), Fail> {
                 Path(126, 0, 1, 0),
                 Path(0, 15_875, 1, 0),
                 0,
-                LAST_TIME,
-                Some(LAST_TIME),
-                Some(LAST_TIME),
+                LAST,
+                Some(LAST),
+                Some(LAST),
             ),
             (
                 Path(200, 0, 1, 0),
                 Path(0, 20_001, 1, 0),
                 0,
-                LAST_TIME,
+                LAST,
                 None,
                 None,
             ),
@@ -197,13 +183,13 @@ fn at_the_limits(rt: HostRuntime) -> Result<(), Fail> {
                 Path(0, 15_875, 1, 0),
                 0,
                 u32::MAX,
-                Some(LAST_TIME),
-                Some(LAST_TIME),
+                Some(LAST),
+                Some(LAST),
             ),
             (
                 Path(126, 0, 1, 0),
                 Path(0, 15_875, 1, 0),
-                LAST_TIME + 1,
+                LAST + 1,
                 u32::MAX,
                 None,
                 None,

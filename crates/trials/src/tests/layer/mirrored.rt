@@ -1,7 +1,7 @@
 // The mirror of the sample, in which the dearer fee card comes first.
 use super::sample;
-use crate::tests::tables::{Table, UNTOUCHED, tells};
-use family::{LAST_TIME, Refusal};
+use crate::tests::tables::{LAST, Table, UNTOUCHED, tells};
+use family::Refusal;
 use layers::Mirror;
 use std::test::Fail;
 
@@ -10,10 +10,10 @@ const MIRRORED: Table<'static> = Table {
     bound: 2,
     exchanges: &[
         // below they are 34 both, then 251 and 250
-        (0, LAST_TIME, Some(34), Some(34)),
-        (34, LAST_TIME, Some(250), Some(251)),
+        (0, LAST, Some(34), Some(34)),
+        (34, LAST, Some(250), Some(251)),
         (34, 250, Some(250), None),
-        (250, LAST_TIME, None, Some(251)),
+        (250, LAST, None, Some(251)),
         (251, u32::MAX, None, None),
     ],
     orders: &[
@@ -34,7 +34,7 @@ const MIRRORED: Table<'static> = Table {
     amounts: &[
         (0, 34, Some(-168)),
         (1, 0, Some(0)),
-        (1, LAST_TIME, Some(-600)),
+        (1, LAST, Some(-600)),
         (9, 0, None),
     ],
     runs: &[
