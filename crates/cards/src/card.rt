@@ -33,7 +33,7 @@ pub trait ExchangingCard: PricedCard {
     // The least u with t < u ≤ end at which "this amount is no larger than the other's" differs from
     // what it is at t, or none.
     fn next_exchange(&self, other: &Self, t: u32, end: u32) -> Option<u32>
-        ensures { NextChange (fact (by_amount Self.PricedCard.amount) self.now other.now) t end result };
+        ensures { NextChange (fact (by_amount Self.amount) self.now other.now) t end result };
 }
 
 // A card that knows where the difference to another may turn.
@@ -41,5 +41,5 @@ pub trait TurningCard: PricedCard {
     // A time up to which the difference of the two amounts never falls or never rises, and from which
     // on it again never falls or never rises.
     fn turning(&self, other: &Self) -> u32
-        ensures { TurnsAt Self.PricedCard.amount self.now other.now result };
+        ensures { TurnsAt Self.amount self.now other.now result };
 }
