@@ -17,7 +17,7 @@ pub struct Lead<'a, F: Family> {
 impl<'a, F: Family> Lead<'a, F> {
     // The leader at a time, or none where no card stands. Level cards go to the lowest slot.
     pub fn at(family: &'a F, since: Time) -> Option<Lead<'a, F>>
-        ensures { MatchOption result (NoneStands (F.slots family.now) every_slot) (λ l. (l.family.now ≡ family.now) × (l.since ≡ since)) }
+        ensures { MatchOption result (NoneStands (F.slots family.now) every_slot) (λ l. (l.family.now ≡ family.now) × (l.since ≡ since) × Leader (F.before family.now) (F.slots family.now) every_slot since.number (Some l.slot)) }
     {
         let slot = leader(family, since)?;
         Some(Lead {
@@ -51,7 +51,8 @@ impl<'a, F: Family> Lead<'a, F> {
 
 // The leader of all slots at a time, or none where no card stands.
 fn leader<F: Family>(family: &F, t: Time) -> Option<u8>
-    ensures { result ≡ leader_of (F.before family.now) (F.slots family.now) every_slot t.number }
+    ensures told { result ≡ leader_of (F.before family.now) (F.slots family.now) every_slot t.number }
+    ensures leads { Leader (F.before family.now) (F.slots family.now) every_slot t.number result }
 {
     let t = u32::from(t);
     let stands = |k: &u8| family.card(*k).is_some();
