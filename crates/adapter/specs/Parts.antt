@@ -1,4 +1,5 @@
--- The order of two slots by their amounts, and parts of the times in which a fact changes at most once.
+-- The order of two slots by their amounts, answers that tell a fact, and parts of the times in which it changes at most
+-- once.
 use Rattle.std.specs.Prelude.{◌≡◌, ℕ, ◌<◌, ◌≤◌, Bool}
 use Rattle.family.specs.Slots.{Cards, slot_before}
 use Rattle.family.specs.Amounts.{Amount, by_amount}
@@ -7,7 +8,7 @@ use Rattle.family.specs.Amounts.{Amount, by_amount}
 abbrev pub no_larger : {C : Type 0} → Amount C → Cards C → ℕ → ℕ → ℕ → Bool
 no_larger amount cards = slot_before (by_amount amount) cards
 
--- each call that is asked at a time answers whether the fact holds there
+-- at each number that a u32 holds, the answer is whether the fact holds then
 abbrev pub Tells : (ℕ → Bool → Type 0) → (ℕ → Bool) → Type 0
 Tells answers p = (t : ℕ) (r : Bool) → t < 4294967296 → answers t r → r ≡ p t
 

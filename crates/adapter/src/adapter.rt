@@ -10,6 +10,7 @@ use family::{CardSlots, Family, Priced, PricedFamily, Refusal, TurningFamily};
 #[derive(Drop)]
 pub struct Adapter<T>(pub T);
 
+// Handed down here as in each layer: a trait that lends what is below would need as many lines in each.
 impl<T: CardSlots> CardSlots for Adapter<T> {
     type Card = T::Card;
 
@@ -49,6 +50,7 @@ impl<T: TurningFamily> Family for Adapter<T> {
         self.0.in_order(i, j, t)
     }
 
+    // Whether slot i is at or before slot j changes at most once on each side of their cards' turning time.
     fn next_exchange(&self, i: u8, j: u8, t: u32, end: u32) -> Option<u32> {
         let c = self.0.card(i)?;
         let d = self.0.card(j)?;

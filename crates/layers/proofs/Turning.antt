@@ -1,5 +1,5 @@
 -- The exchanges of a mirror are those below of the pair turned round.
-use Rattle.std.proofs.Common.{◌≡◌, ℕ, Bool, true, false, Some, None, Option, refl, arith}
+use Rattle.std.proofs.Common.{ℕ, Bool, true, false, Some, None, Option, refl}
 use Rattle.family.specs.Order.{Order, FirstChange, NextChange}
 use Rattle.family.specs.Slots.{Cards, holding_before, slot_before}
 use Rattle.layers.specs.Mirrored.{turned}
@@ -7,8 +7,8 @@ use Rattle.layers.specs.Mirrored.{turned}
 -- a fact that never changes has no first change, whatever it is
 never_changes : (a b : Bool) (t end : ℕ) (r : Option ℕ) → FirstChange (λ _. a) t end r → FirstChange (λ _. b) t end r
 never_changes a b t end None _ = λ u _ _. refl
-never_changes true b t end (Some u) (_, _, e, _) = absurd (let z : ◌≡◌ {A = ℕ} 0 1 = cc in omega arith)
-never_changes false b t end (Some u) (_, _, e, _) = absurd (let z : ◌≡◌ {A = ℕ} 0 1 = cc in omega arith)
+never_changes true b t end (Some u) (_, _, e, _) = absurd cc
+never_changes false b t end (Some u) (_, _, e, _) = absurd cc
 
 holdings_turned : {C : Type 0} (before : Order C) (h k : Option C) (t end : ℕ) (r : Option ℕ)
     → NextChange (holding_before before k h) t end r → NextChange (holding_before (turned before) h k) t end r

@@ -44,6 +44,7 @@ impl<F> LateStart<F> {
     }
 }
 
+// Handed down here as in each layer: a trait that lends what is below would need as many lines in each.
 impl<F: CardSlots> CardSlots for LateStart<F> {
     type Card = F::Card;
 
@@ -104,7 +105,7 @@ impl<F: Priced> Priced for LateStart<F> {
         self.below.amount_at(slot, self.time_below(t))
     }
 
-    // The amounts below from first + delay on; past the end the last one is repeated.
+    // The amounts below from first + delay on; past the end, where a run below is refused, the last one is repeated.
     fn amounts(&self, slot: u8, first: u32, cells: &mut [i64]) -> Result<(), Refusal> {
         run_in_range(first, cells)?;
         let last = self

@@ -10,6 +10,7 @@ use family::{CardSlots, Family, Priced, PricedFamily, Refusal};
 #[derive(Drop)]
 pub struct Mirror<F>(pub F);
 
+// Handed down here as in each layer: a trait that lends what is below would need as many lines in each.
 impl<F: CardSlots> CardSlots for Mirror<F> {
     type Card = F::Card;
 

@@ -7,6 +7,7 @@ pub(crate) fn negate(cells: &mut [i64])
     requires { (k : ℕ) → k < length cells.old → unsigned_abs (slice_index_or cells.old k (pos 0)) ≤ most_amount }
     ensures { (k : ℕ) → k < length cells.old → slice_index_or cells.new k (pos 0) ≡ neg_ℤ (slice_index_or cells.old k (pos 0)) }
 {
+    // A loop, since after `for_each` a proof knows nothing of what was written.
     for cell in cells.iter_mut() {
         *cell = -*cell;
     }

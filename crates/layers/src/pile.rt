@@ -10,7 +10,7 @@ use crate::late::LateStart;
 use crate::mirror::Mirror;
 use family::{Family, Priced};
 
-// A pile of three layers.
+// A pile of three layers. What it comes to is told by functions and not by methods, since these are public.
 pub type LateMirrorLate<F> = LateStart<Mirror<LateStart<F>>>;
 
 // Whether slot i is at or before slot j at t.
