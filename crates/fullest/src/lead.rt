@@ -19,7 +19,7 @@ impl<'a, F: Family> Lead<'a, F> {
     pub fn at(family: &'a F, since: Time) -> Option<Lead<'a, F>>
         ensures { MatchOption result (NoneStands (F.slots family.now) every_slot) (λ l. (l.family.now ≡ family.now) × (l.since ≡ since) × Leader (F.before family.now) (F.slots family.now) every_slot since.number (Some l.slot)) }
     {
-        let slot = leader(family, since)?;
+        let slot = leader(family, since.into())?;
         Some(Lead {
             family,
             slot,
@@ -49,12 +49,11 @@ impl<'a, F: Family> Lead<'a, F> {
     }
 }
 
-// The leader of all slots at a time, or none where no card stands.
-fn leader<F: Family>(family: &F, t: Time) -> Option<u8>
-    ensures told { result ≡ leader_of (F.before family.now) (F.slots family.now) every_slot t.number }
-    ensures leads { Leader (F.before family.now) (F.slots family.now) every_slot t.number result }
+// The leader of all slots at t, or none where no card stands.
+pub fn leader<F: Family>(family: &F, t: u32) -> Option<u8>
+    ensures told { result ≡ leader_of (F.before family.now) (F.slots family.now) every_slot t }
+    ensures leads { Leader (F.before family.now) (F.slots family.now) every_slot t result }
 {
-    let t = u32::from(t);
     let stands = |k: &u8| family.card(*k).is_some();
     let ahead = |best, k| if family.compare(best, k, t) { best } else { k };
     (0..=255u8).filter(stands).reduce(ahead)

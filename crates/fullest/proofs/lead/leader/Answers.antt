@@ -10,7 +10,7 @@ unfolding leader_of
 returns g c =
     let before = g.F.Family.before c.args.family.now in
     let cards = g.F.CardSlots.slots c.args.family.now in
-    let t = c.args.t.number in
+    let t = c.args.t in
     let (p, from, whole, reduces) = c.reduce.ensures.runs in
     let (q, start, filters) = c.filter.ensures.runs p p.seen from in
     let kept : p.items ≡ filter (standing before cards t) q.items = filters.4 (standing before cards t) (search rules) in
