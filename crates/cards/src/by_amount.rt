@@ -5,6 +5,7 @@ use family::{CardSlots, Refusal};
 #[derive(Drop)]
 pub struct ByAmount<P>(pub P);
 
+// Handed down here as in each layer: a trait that lends what is below would need as many lines in each.
 impl<P: CardSlots> CardSlots for ByAmount<P> {
     type Card = P::Card;
 

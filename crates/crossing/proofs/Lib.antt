@@ -1,4 +1,3 @@
 mod Signs
 pub mod Ring
 pub mod Lines
-pub mod Kept

@@ -15,8 +15,6 @@ pub struct Time {
 impl Time {
     // The last time.
     pub const LAST: Time = Time { number: LAST_TIME };
-
-    pub const START: Time = Time { number: 0 };
 }
 
 impl From<u32> for Time {

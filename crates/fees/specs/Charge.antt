@@ -1,7 +1,7 @@
 -- What a fee card charges, and what making one answers.
-use Rattle.std.specs.Prelude.{◌≡◌, ℕ, ◌+◌, ◌*◌, ◌<◌, ◌≤◌, min, pos, Ok, Err, Result}
+use Rattle.std.specs.Prelude.{◌≡◌, ℕ, ◌+◌, ◌*◌, ◌<◌, ◌≤◌, min, pos, Result}
 use Rattle.family.specs.declared.refusal.Refusal.{Refusal}
-use Rattle.family.specs.declared.refusal.Refusal.TheVariants.{OutsideLimits}
+use Rattle.family.specs.Makes.{Makes}
 use Rattle.family.specs.Order.{last_time}
 use Rattle.family.specs.Amounts.{Amount}
 use Rattle.fees.specs.Limits.{Limits}
@@ -27,5 +27,4 @@ MadeOf opening rate cap c = (c.opening ≡ opening) × (c.rate ≡ rate) × (c.c
 
 -- it is made of numbers within the limits, and of no others
 abbrev pub Making : ℕ → ℕ → ℕ → Result FeeCard Refusal → Type 0
-Making opening rate cap (Ok c) = Limits opening rate cap × MadeOf opening rate cap c
-Making opening rate cap (Err e) = (e ≡ OutsideLimits) × (Limits opening rate cap → ⊥)
+Making opening rate cap = Makes (Limits opening rate cap) (MadeOf opening rate cap)

@@ -1,7 +1,7 @@
 -- What a hopper holds at a time, and what making one answers.
-use Rattle.std.specs.Prelude.{◌≡◌, ℕ, ℤ, pos, ◌+ℤ◌, ◌*ℤ◌, Ok, Err, Result}
+use Rattle.std.specs.Prelude.{◌≡◌, ℕ, ℤ, pos, ◌+ℤ◌, ◌*ℤ◌, Result}
 use Rattle.family.specs.declared.refusal.Refusal.{Refusal}
-use Rattle.family.specs.declared.refusal.Refusal.TheVariants.{OutsideLimits}
+use Rattle.family.specs.Makes.{Makes}
 use Rattle.family.specs.Amounts.{Amount}
 use Rattle.hoppers.specs.Limits.{Limits}
 use Rattle.hoppers.specs.declared.hopper.Hopper.{Hopper}
@@ -16,5 +16,4 @@ MadeOf fill rate capacity h = (h.fill ≡ fill) × (h.rate ≡ rate) × (h.capac
 
 -- it is made of numbers within the limits, and of no others
 abbrev pub Making : ℕ → ℤ → ℕ → Result Hopper Refusal → Type 0
-Making fill rate capacity (Ok h) = Limits fill rate capacity × MadeOf fill rate capacity h
-Making fill rate capacity (Err e) = (e ≡ OutsideLimits) × (Limits fill rate capacity → ⊥)
+Making fill rate capacity = Makes (Limits fill rate capacity) (MadeOf fill rate capacity)

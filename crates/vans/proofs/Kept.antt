@@ -1,5 +1,5 @@
 -- Vectors and inner products as they are computed in 64 bits.
-use Rattle.std.proofs.Common.{◌≡◌, ℕ, ◌≤◌, ℤ, ◌*◌, ◌+ℤ◌, ◌*ℤ◌, nat_abs, arith, w64, SFits, to_z, of_z}
+use Rattle.std.proofs.Common.{◌≡◌, ℕ, ◌≤◌, ℤ, ◌*◌, ◌+ℤ◌, ◌-ℤ◌, ◌*ℤ◌, nat_abs, arith, w64, SFits, to_z, of_z}
 use borrow.Author.Differences.{ints}
 use Rattle.crossing.specs.Line.{line}
 use Rattle.crossing.proofs.Ring.{times_size}
@@ -8,6 +8,10 @@ use Rattle.vans.specs.declared.vector.Vector.{Vector}
 
 abbrev read : ℤ → ℤ
 read z = to_z w64 (of_z w64 z)
+
+pub difference_kept : (x y z w : ℤ) → x ≡ z → y ≡ w → nat_abs z ≤ 4000000000000000000 → nat_abs w ≤ 4000000000000000000
+    → read (read x -ℤ read y) ≡ z -ℤ w
+difference_kept x y z w p q f g = rw (p, q) (omega (arith, ints))
 
 -- a coordinate keeps within bounds
 pub coordinate_kept : (r p v : ℤ) (t : ℕ) → r ≡ line p v t → nat_abs p ≤ 100000 → nat_abs v ≤ 1000 → t ≤ 1000000 → nat_abs (read r) ≤ 1000100000

@@ -1,7 +1,7 @@
 -- How far a van is from the site, and what making one answers.
-use Rattle.std.specs.Prelude.{◌≡◌, ℤ, ◌+ℤ◌, ◌*ℤ◌, Ok, Err, Result}
+use Rattle.std.specs.Prelude.{◌≡◌, ℤ, ◌+ℤ◌, ◌*ℤ◌, Result}
 use Rattle.family.specs.declared.refusal.Refusal.{Refusal}
-use Rattle.family.specs.declared.refusal.Refusal.TheVariants.{OutsideLimits}
+use Rattle.family.specs.Makes.{Makes}
 use Rattle.family.specs.Amounts.{Amount}
 use Rattle.crossing.specs.Line.{line}
 use Rattle.vans.specs.Limits.{Limits}
@@ -20,5 +20,4 @@ MadeOf px py vx vy v = (v.px ≡ px) × (v.py ≡ py) × (v.vx ≡ vx) × (v.vy 
 
 -- it is made of numbers within the limits, and of no others
 abbrev pub Making : ℤ → ℤ → ℤ → ℤ → Result Van Refusal → Type 0
-Making px py vx vy (Ok v) = Limits px py vx vy × MadeOf px py vx vy v
-Making px py vx vy (Err e) = (e ≡ OutsideLimits) × (Limits px py vx vy → ⊥)
+Making px py vx vy = Makes (Limits px py vx vy) (MadeOf px py vx vy)

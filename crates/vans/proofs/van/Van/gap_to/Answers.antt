@@ -1,6 +1,6 @@
 use Rattle.std.proofs.Common.{arith}
 use borrow.Author.Differences.{ints}
-use Rattle.crossing.proofs.Kept.{difference_kept}
+use Rattle.vans.proofs.Kept.{difference_kept}
 use Rattle.vans.specs.Distances.{gap_is, start_size, tilt_size, bend_size}
 use Rattle.vans.proofs.van.Van.gap_to.Goals as goal
 
