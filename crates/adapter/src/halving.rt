@@ -35,6 +35,7 @@ fn change_by_halving<F: Fn(u32) -> bool>(holds: &F, from: u32, end: u32) -> Opti
     if holds(end) == held {
         return None;
     }
+    // It counts nothing: the two ends close in on the change, and std has no such search over times.
     let mut same = from;
     let mut differs = end;
     while differs - same > 1 {

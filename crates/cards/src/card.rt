@@ -3,6 +3,7 @@ ghost use Rattle.std.specs.Prelude.{◌≡◌, ℕ, ◌≤◌};
 ghost use Rattle.family.specs.Order.{clamp, fact, FewChanges, NextChange};
 ghost use Rattle.family.specs.Amounts.{Amount, WithinSize, by_amount, TurnsAt, Turning};
 
+// Each sort of card gives these itself: they are its mathematics, and what is alike in their impls is only the names.
 pub trait PricedCard: Copy {
     // What a card comes to at a time.
     ghost amount: { Amount Self };

@@ -35,7 +35,8 @@ impl From<Time> for u32 {
     }
 }
 
-// A time and an end, as a caller who asks for what comes next names them.
+// A time and an end, as a caller who asks for what comes next names them. Public functions take the two numbers
+// themselves: a type that has room for fewer would ask more of their callers.
 #[derive(Clone, Copy)]
 pub struct Span {
     pub from: Time,
