@@ -1,6 +1,6 @@
 -- First changes on the two sides of a turning time.
 use Rattle.std.proofs.Common.{◌≡◌, ℕ, ◌≤◌, min, Bool, ◌-ℤ◌, Some, None, Option, refl, arith}
-use Rattle.family.specs.Order.{last_time, clamp, FirstChange, NextChange}
+use Rattle.family.specs.Order.{last_time, FirstChange}
 use Rattle.family.specs.Slots.{Cards}
 use Rattle.family.specs.Amounts.{Amount, Steady, TurnsAt}
 use Rattle.family.proofs.Change.{first_change_from, first_change_upto}
@@ -8,16 +8,11 @@ use Rattle.family.proofs.Steady.{lasts}
 use Rattle.adapter.specs.Parts.{no_larger, ChangesOnce}
 
 -- the first change is that of the first part, or else that of the second
-first_on_either_side : (p : ℕ → Bool) (a m b : ℕ) (early r : Option ℕ) → min a b ≤ m → m ≤ b → FirstChange p a m early
+pub first_on_either_side : (p : ℕ → Bool) (a m b : ℕ) (early r : Option ℕ) → min a b ≤ m → m ≤ b → FirstChange p a m early
     → (early ≡ None → FirstChange p m b r) → ((u : ℕ) → early ≡ Some u → r ≡ Some u) → FirstChange p a b r
 first_on_either_side p a m b (Some u) r from upto first _ same = rw (same u refl) (first_change_upto p a m b u upto first)
 first_on_either_side p a m b None None from upto first late _ = let later = late refl in λ u above below. grind (arith, later u, first u)
 first_on_either_side p a m b None (Some w) from upto first late _ = first_change_from p a m b (Some w) (omega (arith, late refl)) first (late refl)
-
-pub next_on_either_side : (p : ℕ → Bool) (t end a m b : ℕ) (early r : Option ℕ) → a ≡ clamp t → b ≡ clamp end → min a b ≤ m → m ≤ b
-    → FirstChange p a m early → (early ≡ None → FirstChange p m b r) → ((u : ℕ) → early ≡ Some u → r ≡ Some u) → NextChange p t end r
-next_on_either_side p t end a m b early r a_is b_is from upto first late same =
-    rw (a_is, b_is) at (first_on_either_side p a m b early r from upto first late same)
 
 -- where the difference of two cards is steady, the order of the slots that hold them changes once: so it does on
 -- each side of their turning time

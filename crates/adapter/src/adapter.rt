@@ -4,13 +4,14 @@ ghost use Rattle.family.proofs.Steady.{few_if_turning};
 ghost use Rattle.std.proofs.Common.{rules};
 
 use crate::halving::next_change;
-use family::{CardSlots, Family, Priced, PricedFamily, Refusal, TurningFamily};
+use family::{CardSlots, Family, Priced, PricedFamily, Refusal, Span, TurningFamily};
 
 // The priced family of a turning family, with the cards that are in it.
 #[derive(Drop)]
 pub struct Adapter<T>(pub T);
 
-// Handed down here as in each layer: a trait that lends what is below would need as many lines in each.
+// Handed down here as in each layer: one impl over a trait that lends what is below was tried, and each layer then
+// needs as many lines.
 impl<T: CardSlots> CardSlots for Adapter<T> {
     type Card = T::Card;
 
@@ -55,7 +56,7 @@ impl<T: TurningFamily> Family for Adapter<T> {
         let c = self.0.card(i)?;
         let d = self.0.card(j)?;
         let turning = self.0.turning(c, d);
-        next_change(|u| self.0.in_order(i, j, u), turning, t, end)
+        next_change(|u| self.0.in_order(i, j, u), turning, Span::new(t, end))
     }
 
     fn bound(&self) -> u8 {

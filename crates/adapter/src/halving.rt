@@ -1,23 +1,17 @@
 // First changes found by halving.
 ghost use Rattle.std.specs.Prelude.{ℕ, Bool};
-ghost use Rattle.family.specs.Order.{last_time, FirstChange, NextChange};
+ghost use Rattle.family.specs.Order.{last_time, FirstChange};
 ghost use Rattle.adapter.specs.Parts.{ChangesOnce, Tells};
 
-use family::LAST_TIME;
+use family::Span;
 
 // The next change of any fact that changes at most once up to the turning time and at most once from there on:
 // that of the side before the turning time, or else that of the side after it.
-pub(crate) fn next_change<F: Fn(u32) -> bool>(
-    holds: F,
-    turning: u32,
-    t: u32,
-    end: u32,
-) -> Option<u32>
+pub(crate) fn next_change<F: Fn(u32) -> bool>(holds: F, turning: u32, span: Span) -> Option<u32>
     requires { F.IsAlwaysCallable holds }
-    ensures { (p : ℕ → Bool) → Tells (F.post holds) p → ChangesOnce p 0 turning → ChangesOnce p turning last_time → NextChange p t end result }
+    ensures { (p : ℕ → Bool) → Tells (F.post holds) p → ChangesOnce p 0 turning → ChangesOnce p turning last_time → FirstChange p span.from.number span.end.number result }
 {
-    let from = t.min(LAST_TIME);
-    let end = end.min(LAST_TIME);
+    let (from, end) = (u32::from(span.from), u32::from(span.end));
     let middle = turning.max(from).min(end);
     change_by_halving(&holds, from, middle).or_else(|| change_by_halving(&holds, middle, end))
 }

@@ -5,7 +5,8 @@ use family::{CardSlots, Refusal};
 #[derive(Drop)]
 pub struct ByAmount<P>(pub P);
 
-// Handed down here as in each layer: a trait that lends what is below would need as many lines in each.
+// Handed down here as in each layer: one impl over a trait that lends what is below was tried, and each layer then
+// needs as many lines.
 impl<P: CardSlots> CardSlots for ByAmount<P> {
     type Card = P::Card;
 

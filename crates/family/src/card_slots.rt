@@ -10,7 +10,8 @@ pub trait CardSlots {
     // The card in each slot, or none.
     ghost slots: { Self → Cards Self.Card };
 
-    // Whether two values of the type differ in the cards in their slots and in nothing else.
+    // Whether two values of the type are one but for the cards in their slots. What they then have in common, the
+    // laws of the traits say that build on this one.
     ghost alike: { Self → Self → Type 0 };
 
     // Fills an empty slot and touches no other. A filled one is refused (21), and nothing changes.

@@ -12,11 +12,6 @@ pub struct Time {
     ghost within: { number ≤ last_time },
 }
 
-impl Time {
-    // The last time.
-    pub const LAST: Time = Time { number: LAST_TIME };
-}
-
 impl From<u32> for Time {
     ghost from_gives = { λ t r. r.number ≡ clamp t };
 

@@ -6,7 +6,7 @@ ghost use Rattle.std.proofs.Common.{rules};
 
 use crate::card::FeeCard;
 use cards::PricedCard;
-use family::LAST_TIME;
+use family::Time;
 
 impl PricedCard for FeeCard {
     ghost amount = { charge_at };
@@ -22,7 +22,7 @@ impl PricedCard for FeeCard {
     ghost turns = { charges_turn };
 
     fn amount_at(&self, t: u32) -> i64 {
-        self.charge_for(t.min(LAST_TIME)) as i64
+        self.charge_for(Time::from(t).into()) as i64
     }
 
     fn bound() -> u8 {

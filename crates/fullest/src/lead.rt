@@ -1,4 +1,5 @@
-// Who leads a family at a time, and how long.
+// Who leads a family at a time, and how long. Each clause names the order and the slots that it speaks of: a word over
+// the family in their place would be no shorter, and would hide the time.
 ghost use Rattle.std.specs.Prelude.{◌≡◌, Some, MatchOption};
 ghost use Rattle.envelope.specs.Lead.{every_slot, NoneStands, Ahead, Leader, leader_of};
 ghost use Rattle.fullest.specs.Lasting.{Lasting};

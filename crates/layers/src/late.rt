@@ -6,7 +6,7 @@ ghost use Rattle.layers.specs.Delayed.{delayed, delayed_amount};
 ghost use Rattle.layers.specs.Delay.{moved_few};
 ghost use Rattle.std.proofs.Common.{rules};
 
-use family::{CardSlots, Family, LAST_TIME, Priced, PricedFamily, Refusal, run_in_range};
+use family::{CardSlots, Family, LAST_TIME, Priced, PricedFamily, Refusal, Time, run_in_range};
 
 // A late start over a family, with the cards that are in it.
 #[derive(Drop)]
@@ -25,7 +25,7 @@ impl<F> LateStart<F> {
     {
         LateStart {
             below,
-            delay: delay.min(LAST_TIME),
+            delay: Time::from(delay).into(),
         }
     }
 
@@ -44,7 +44,8 @@ impl<F> LateStart<F> {
     }
 }
 
-// Handed down here as in each layer: a trait that lends what is below would need as many lines in each.
+// Handed down here as in each layer: one impl over a trait that lends what is below was tried, and each layer then
+// needs as many lines.
 impl<F: CardSlots> CardSlots for LateStart<F> {
     type Card = F::Card;
 

@@ -10,7 +10,8 @@ use family::{CardSlots, Family, Priced, PricedFamily, Refusal};
 #[derive(Drop)]
 pub struct Mirror<F>(pub F);
 
-// Handed down here as in each layer: a trait that lends what is below would need as many lines in each.
+// Handed down here as in each layer: one impl over a trait that lends what is below was tried, and each layer then
+// needs as many lines.
 impl<F: CardSlots> CardSlots for Mirror<F> {
     type Card = F::Card;
 

@@ -12,6 +12,7 @@ ghost use Rattle.parabola.specs.Reach.{in_reach};
 use crossing::next_crossing;
 use family::{Span, Time};
 
+// Its numbers are too large for `line_at`, which takes any of 32 bits and asks nothing.
 #[derive(Clone, Copy)]
 pub(crate) struct Line {
     // The number at time 0.

@@ -21,10 +21,9 @@ impl<C: Copy> CardSlots for Slots<C> {
     }
 
     fn lift(&mut self, slot: u8) -> Result<(), Refusal> {
-        match self.places[usize::from(slot)].take() {
-            Some(_) => Ok(()),
-            None => Err(Refusal::SlotEmpty),
-        }
+        let place = &mut self.places[usize::from(slot)];
+        place.take().ok_or(Refusal::SlotEmpty)?;
+        Ok(())
     }
 
     fn card(&self, slot: u8) -> Option<C> {

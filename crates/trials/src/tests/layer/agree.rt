@@ -1,4 +1,5 @@
 // Hoppers by formula and by bisection.
+// Some rows stand in the trials of hoppers too: each table is whole, so that it can be read by itself.
 use crate::tests::both_ways::{both_ways, every_minute_both_ways};
 use crate::tests::made::{Line, pair};
 use crate::tests::random::{Random, small_line};
