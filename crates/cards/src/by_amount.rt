@@ -1,5 +1,4 @@
 // The cards in a table, ordered by their amounts: the smaller one comes first.
-
 use family::{CardSlots, Refusal};
 
 #[derive(Drop)]

@@ -4,6 +4,7 @@ ghost use Rattle.family.specs.Slots.{Cards, PutAnswer, LiftAnswer};
 
 use crate::refusal::Refusal;
 
+// 256 slots, in each of which one card of the sort `Card` stands, or none.
 pub trait CardSlots {
     type Card: Copy;
 

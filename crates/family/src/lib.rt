@@ -17,9 +17,10 @@
 // minute 50. "The first is at or before the second" holds up to minute 50 and differs from 51 on; "the
 // second is at or before the first" differs from 50 on. So the exchange of (i, j) is not that of (j, i).
 //
-// The interface is in four parts. `CardSlots` holds the cards, `Family` orders them, `Priced` tells amounts,
-// and `TurningFamily` tells where the difference of two amounts turns. Whatever is built on a part holds
-// for each type that has it, with nothing more to show.
+// The interface is in parts. `CardSlots` holds the cards; on it build `Family`, which orders them, and `Priced`,
+// which tells amounts. `PricedFamily` is both, with the order that the amounts give, and `TurningFamily` is
+// `Priced` and tells where the difference of two amounts turns. Whatever is built on a part holds for each type
+// that has it, with nothing more to show.
 #![tactic(auto)]
 
 mod card_slots;

@@ -7,6 +7,7 @@ use crate::card_slots::CardSlots;
 use crate::family::Family;
 use crate::refusal::Refusal;
 
+// Cards that each come to an amount at each time.
 pub trait Priced: CardSlots {
     // What a card comes to at a time.
     ghost amount: { Self → Amount Self.Card };
@@ -20,6 +21,7 @@ pub trait Priced: CardSlots {
     fn amounts(&self, slot: u8, first: u32, cells: &mut [i64]) -> Result<(), Refusal>
         ensures { RunAnswer (amount self.now) (Self.slots self.now slot) first cells.old result cells.new };
 
+    // No amount is larger than amounts may be.
     ghost sized: { (f : Self) → WithinSize (amount f) };
 
     // Whether slot i is at or before slot j at t in the order of the amounts, in which an empty slot comes
