@@ -1,17 +1,50 @@
 // When two cards trade places, by formula and by bisection.
-use crate::tests::made::{Made, adapted, pair};
+use crate::tests::made::{Line, Made, Path, adapted, pair};
 use crate::tests::tables::{Asked, looked_up};
-use agreement::exchange_both_ways;
+use adapter::Adapter;
+use agreement::{exchange_both_ways, hopper_exchange, van_exchange};
 use family::{PricedFamily, TurningFamily};
+use hoppers::Hoppers;
 use std::process::Abort;
 use std::test::Fail;
+use vans::Vans;
+
+// Cards whose sort has a function of its own that asks both ways.
+pub trait AskedByName: Made {
+    // The slots, the start and the end.
+    fn asked_by_name(
+        formula: &Self::Family,
+        bisection: &Adapter<Self::Family>,
+        asked: (u8, u8, u32, u32),
+    ) -> (Option<u32>, Option<u32>);
+}
+
+impl AskedByName for Line {
+    fn asked_by_name(
+        formula: &Hoppers,
+        bisection: &Adapter<Hoppers>,
+        (i, j, t, end): (u8, u8, u32, u32),
+    ) -> (Option<u32>, Option<u32>) {
+        hopper_exchange(formula, bisection, i, j, t, end)
+    }
+}
+
+impl AskedByName for Path {
+    fn asked_by_name(
+        formula: &Vans,
+        bisection: &Adapter<Vans>,
+        (i, j, t, end): (u8, u8, u32, u32),
+    ) -> (Option<u32>, Option<u32>) {
+        van_exchange(formula, bisection, i, j, t, end)
+    }
+}
 
 // Two cards, a start and an end; then when "slot 0 is at or before slot 1" changes, and when "slot 1 is at or
 // before slot 0" does.
 pub type Row<M> = (M, M, u32, u32, Option<u32>, Option<u32>);
 
 // Both ways tell both exchanges, and those of the pair the other way round.
-pub fn both_ways<M: Made>(rt: &impl Abort, rows: &[Row<M>]) -> Result<(), Fail>
+pub fn both_ways<M: AskedByName>(rt: &impl Abort, rows: &[Row<M>]) -> Result<(), Fail>
 where
     M::Family: PricedFamily + TurningFamily,
 {
@@ -21,7 +54,7 @@ where
     Ok(())
 }
 
-fn either_way_round<M: Made>(rt: &impl Abort, row: Row<M>) -> Result<(), Fail>
+fn either_way_round<M: AskedByName>(rt: &impl Abort, row: Row<M>) -> Result<(), Fail>
 where
     M::Family: PricedFamily + TurningFamily,
 {
@@ -30,7 +63,7 @@ where
     asked_both_ways(rt, d, c, (t, end, back, forth))
 }
 
-fn asked_both_ways<M: Made>(rt: &impl Abort, c: M, d: M, asked: Asked) -> Result<(), Fail>
+fn asked_both_ways<M: AskedByName>(rt: &impl Abort, c: M, d: M, asked: Asked) -> Result<(), Fail>
 where
     M::Family: PricedFamily + TurningFamily,
 {
@@ -42,12 +75,22 @@ where
             (told, told),
             "slots {i} and {j} from {t} to {end}"
         );
+        assert_eq!(rt;
+            M::asked_by_name(&formula, &bisection, (i, j, t, end)),
+            (told, told),
+            "by name: slots {i} and {j} from {t} to {end}"
+        );
     }
     Ok(())
 }
 
 // Both ways tell what is seen by looking at every minute up to 300.
-pub fn every_minute_both_ways<M: Made>(rt: &impl Abort, c: M, d: M, t: u32) -> Result<(), Fail>
+pub fn every_minute_both_ways<M: AskedByName>(
+    rt: &impl Abort,
+    c: M,
+    d: M,
+    t: u32,
+) -> Result<(), Fail>
 where
     M::Family: PricedFamily + TurningFamily,
 {
