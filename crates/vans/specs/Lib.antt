@@ -2,3 +2,4 @@ pub mod Limits
 pub mod Distance
 pub mod Spread
 pub mod Distances
+pub mod Inner

@@ -12,7 +12,7 @@ pub(crate) struct Vector {
 
 impl Vector {
     // The inner product.
-    #[tactic(auto, using(crate::proofs::Kept::dot_fits, crate::proofs::Kept::dot_kept))]
+    #[tactic(auto, using(crate::proofs::Kept::dot_fits, crate::proofs::Kept::dot_kept, crate::specs::Inner::inner_fits))]
     pub(crate) fn dot(self, other: Vector) -> i64
         ensures { result ≡ self.x *ℤ other.x +ℤ self.y *ℤ other.y }
     {
