@@ -11,6 +11,9 @@ use Rattle.family.proofs.Holdings.{holdings_alike}
 use Rattle.layers.specs.Mirrored.{turned}
 use Rattle.layers.specs.Delayed.{delayed}
 
+moved_fact : {C : Type 0} (delay : ℕ) (before : Order C) (c d : C) (t : ℕ) → fact (delayed delay before) c d t ≡ fact before c d (t + delay)
+moved_fact delay before c d t = let e : clamp (clamp t + delay) ≡ clamp (t + delay) = omega arith in ap (before c d) e
+
 -- the changes of a late start are some of those below
 moved_changes : (p q : ℕ → Bool) (delay s t : ℕ) (ts : List ℕ) → ((u : ℕ) → q u ≡ p (u + delay)) → s ≤ t + delay
     → Changes q t ts → Changes p s (map (λ u. u + delay) ts)
@@ -24,15 +27,22 @@ moved_changes p q delay s t (u ∷ us) is on (above, differs, rest) =
 
 pub moved_few : {C : Type 0} (delay s : ℕ) (before : Order C) → FewChanges s before → FewChanges s (delayed delay before)
 moved_few delay s before few c d ts changes =
-    let is = λ (t : ℕ). ap (before c d) (let e : clamp (clamp t + delay) ≡ clamp (t + delay) = omega arith in e) in
-    omega (arith, length-map ts (λ u. u + delay), few c d (map (λ u. u + delay) ts) (moved_changes (fact before c d) _ delay 0 0 ts is (omega arith) changes))
+    omega (arith, length-map ts (λ u. u + delay), few c d (map (λ u. u + delay) ts) (moved_changes (fact before c d) _ delay 0 0 ts (moved_fact delay before c d) (omega arith) changes))
+
+-- what holdings of a late start are, and that below nothing changes past the end
+moved_holding : {C : Type 0} (delay : ℕ) (before : Order C) (h k : Option C) (t : ℕ)
+    → holding_before (delayed delay before) h k t ≡ holding_before before h k (t + delay)
+moved_holding delay before h k t = holdings_alike (delayed delay before) before t (t + delay) (λ c d. moved_fact delay before c d t) h k
+
+still_past_end : {C : Type 0} (before : Order C) (h k : Option C) (t : ℕ) → holding_before before h k t ≡ holding_before before h k (clamp t)
+still_past_end before h k t =
+    let e : clamp t ≡ clamp (clamp t) = omega arith in
+    holdings_alike before before t (clamp t) (λ c d. ap (before c d) e) h k
 
 -- the first change of a late start is that below from s to e, moved back
 module _ {C : Type 0} (delay : ℕ) (before : Order C) (cards : Cards C) (i j t end s e : ℕ) (s_is : clamp s ≡ clamp (t + delay)) (e_is : clamp e ≡ clamp (end + delay)) where
   is : (u : ℕ) → slot_before (delayed delay before) cards i j u ≡ slot_before before cards i j (clamp (u + delay))
-  is u =
-      let at : clamp (clamp u + delay) ≡ clamp (clamp (u + delay)) = omega arith in
-      holdings_alike (delayed delay before) before u (clamp (u + delay)) (λ c d. ap (before c d) at) (cards i) (cards j)
+  is u = moved_holding delay before (cards i) (cards j) u ∙ still_past_end before (cards i) (cards j) (u + delay)
 
   start : slot_before (delayed delay before) cards i j (clamp t) ≡ slot_before before cards i j (clamp s)
   start = is (clamp t) ∙ ap (slot_before before cards i j) (omega arith)
