@@ -1,10 +1,15 @@
--- How large the discriminant is, and its two products.
-use Rattle.std.proofs.Common.{◌≡◌, ◌≤◌, ◌-ℤ◌, ◌*ℤ◌, nat_abs, arith, w64, SFits, to_z, of_z}
+-- How large half the slope and the discriminant are, and its two products.
+use Rattle.std.proofs.Common.{◌≡◌, ℕ, ◌≤◌, ◌-ℤ◌, ◌*ℤ◌, nat_abs, arith, w64, SFits, to_z, of_z}
 use borrow.Author.Differences.{ints}
 use Rattle.std.proofs.lemmas.Int.{to_z-of_z}
 use Rattle.parabola.specs.declared.curve.Parabola.{Parabola}
-use Rattle.parabola.specs.Slope.{discriminant_of}
+use Rattle.parabola.specs.Slope.{half_slope_of, discriminant_of}
+use Rattle.crossing.proofs.Lines.{line_size}
 use Rattle.crossing.proofs.Ring.{times_size}
+
+-- half the slope up to the last time
+pub slope_size : (p : Parabola) (t : ℕ) → t ≤ 1000000 → nat_abs (half_slope_of p t) ≤ 4001000000000
+slope_size p t upto = line_size p.tilt p.bend t 1000000000 4000000 1000000 p.within.1 p.within.2 upto
 
 module _ (p : Parabola) where
   square_size : nat_abs (p.tilt *ℤ p.tilt) ≤ 1000000000000000000

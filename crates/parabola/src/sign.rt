@@ -1,6 +1,6 @@
 // When the height of a parabola changes its sign.
 ghost use Rattle.std.specs.Prelude.{◌≡◌, ℕ, ◌≤◌, pos, ◌≢◌, unsigned_abs};
-ghost use Rattle.family.specs.Order.{NextChange};
+ghost use Rattle.family.specs.Order.{last_time, NextChange};
 ghost use Rattle.crossing.specs.Line.{line};
 ghost use Rattle.parabola.specs.Height.{height_of, not_below};
 ghost use Rattle.parabola.specs.Slope.{half_slope_of, discriminant_of, ReachOf};
@@ -37,8 +37,10 @@ impl Parabola {
         }
     }
 
+    #[tactic(auto, using(crate::proofs::Sizes::slope_size))]
     fn half_slope(&self) -> Line
-        ensures { (t : ℕ) → line result.start result.step t ≡ half_slope_of self.now t }
+        ensures value { (t : ℕ) → line result.start result.step t ≡ half_slope_of self.now t }
+        ensures bound { (t : ℕ) → t ≤ last_time → unsigned_abs (line result.start result.step t) ≤ 4001000000000 }
     {
         Line {
             start: self.tilt,
