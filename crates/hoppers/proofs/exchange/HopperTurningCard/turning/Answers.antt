@@ -3,4 +3,4 @@ use Rattle.hoppers.specs.Fills.{turn_anywhere}
 use Rattle.hoppers.proofs.exchange.HopperTurningCard.turning.Goals as goal
 
 pub returns : goal.returns
-returns c = turn_anywhere c.args.self.now c.args._other.now 0 (omega arith)
+returns c = turn_anywhere c.args.self.now c.args._other.now _ (omega arith)
