@@ -6,8 +6,8 @@ use std::fmt::Debug;
 use std::process::Abort;
 use std::test::Fail;
 
-// The last time, by a name that leaves a row on one line.
-pub use family::LAST_TIME as LAST;
+// The last time, as a number of the tests' own.
+pub const LAST: u32 = 1_000_000;
 
 // A start and an end; then the next exchange of slots 0 and 1, and of 1 and 0: when "slot 0 is at or before
 // slot 1" changes, and when "slot 1 is at or before slot 0" does.
